@@ -1,5 +1,5 @@
 -- What is said of the circuit of all cycles is said of the job.
-use Rattle.std.proofs.Common.{◌≡◌, ◌∙◌, ap, sym, refl, subst, ℕ, ◌<◌, ◌^◌, List, [], ◌∷◌, ◌++◌, length, map, take, Ok, ◌↔◌}
+use Rattle.std.proofs.Common.{◌≡◌, ◌∙◌, ap, sym, refl, subst, ℕ, ◌<◌, ◌^◌, List, [], ◌∷◌, ◌++◌, length, map, take, Option, None, Some, Ok, ◌↔◌}
 use Rattle.lists.specs.Lists.{Has}
 use Rattle.net_words.specs.Binding.{BoundNet}
 use Rattle.net_words.specs.declared.bound.BoundWord.{BoundWord}
@@ -8,7 +8,7 @@ use Rattle.net_words.specs.declared.word.Role.TheVariants.{Input, State, Fed, Ou
 use Rattle.poly_mixed.specs.Polynomial.{Terms, value}
 use Rattle.circuit_model.specs.Alike.{AreAlike}
 use Rattle.circuit_model.specs.Circuit.{Circuit, IsInput}
-use Rattle.circuit_model.specs.Differing.{IsDifferingInput}
+use Rattle.circuit_model.specs.Differing.{Difference, IsComparison, IsDifferingInput}
 use Rattle.circuit_model.specs.JobOfBinding.{job_word_with, job_words_of}
 use Rattle.circuit_model.specs.OfBinding.{word_with, words_of}
 use Rattle.circuit_model.specs.Out.{IsOut}
@@ -124,6 +124,18 @@ module _ (setting : SettingValue) (c job : Circuit) (one : IsOneWith c job) wher
     are = alike_ones c job one.alike xs is.ones is.are;
     least = λ ys others l r are differ. is.least ys others l r (alike_ones job c (alike_back c job one.alike) ys others are) (record { first = (same ys l).1 differ.first; second = (more ys r).1 differ.second; apart = differ.apart });
   }
+
+  -- and so are their comparisons
+  pub comparison : (f g f' g' : List ℕ → ℕ → Type 0) → ((xs : List ℕ) (e : ℕ) → f xs e ↔ f' xs e) → ((xs : List ℕ) (e : ℕ) → g xs e ↔ g' xs e) → (found : Option Difference) → IsComparison c f g found → IsComparison job f' g' found
+  comparison f g f' g' same more None is = λ xs left right input first second. is xs left right (input_from xs input) ((same xs left).1 first) ((more xs right).1 second)
+  comparison f g f' g' same more (Some found) is = differing f g f' g' same more found.input found.left found.right is
+
+-- two circuits that are one with the same job are one with each other
+pub one_through : (c d job : Circuit) → IsOneWith c job → IsOneWith d job → IsOneWith c d
+one_through c d job one other = record {
+  alike = record { k = one.alike.k ∙ sym other.alike.k; product = one.alike.product ∙ sym other.alike.product; bases = one.alike.bases ∙ sym other.alike.bases };
+  output = λ xs e. ((λ out. (other.output xs e).1 ((one.output xs e).0 out)), (λ out. (one.output xs e).1 ((other.output xs e).0 out)));
+}
 
 -- two pairs of one function each are one function at once
 pub both_one : (c job d other : Circuit) → IsOneWith c job → IsOneWith d other → AreOneFunction c d ↔ AreOneFunction job other

@@ -14,4 +14,6 @@ pub mod CheckLemmas
 pub mod EqualLabelLemmas
 pub mod PrintedLemmas
 pub mod JobLemmas
+pub mod SimplerLemmas
+pub mod SimplerDetermined
 pub mod FieldNameLemmas

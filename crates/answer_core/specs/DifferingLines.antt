@@ -1,5 +1,5 @@
 -- The lines of the input at which two functions are told apart. Source: this project's own, docs/COMMANDS.md.
-use Rattle.std.specs.Prelude.{ℕ, List, [], ◌∷◌, ◌++◌, codes}
+use Rattle.std.specs.Prelude.{ℕ, List, [], ◌∷◌, ◌++◌, codes, length, take}
 use Rattle.poly_mixed.specs.Labels.{Labelling}
 use Rattle.poly_mixed.specs.Text.{hex_text}
 use Rattle.circuit_model.specs.Differing.{Difference}
@@ -21,3 +21,7 @@ value_line name element = name ++ (codes " " ++ (hex_text element ++ codes "\n")
 -- the input and the two values there, which have these names
 abbrev pub differing_lines : Labelling → List ℕ → List ℕ → Difference → List ℕ
 differing_lines labels first second found = word_lines labels.words found.input ++ (value_line first found.left ++ value_line second found.right)
+
+-- the values at an input, of which as many elements count as the labels have words
+abbrev pub difference_at : Labelling → List ℕ → (left right : ℕ) → Difference
+difference_at labels input left right = record { input = take (length labels.words) input; left = left; right = right }

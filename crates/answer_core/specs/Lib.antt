@@ -1,7 +1,9 @@
 pub mod Reply
+pub mod Replies
 pub mod Staged
 pub mod DifferingLines
 pub mod Abstraction
 pub mod Judged
+pub mod Simpler
 pub mod Printed
 pub mod StageStop

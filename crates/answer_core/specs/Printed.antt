@@ -1,6 +1,6 @@
 -- What printed polynomials say of the jobs in the files, and when two jobs are one function. Source: Pruss, Kalla, Enescu,
 -- Word-Level Abstraction from Bit-Level Circuits Using Gröbner Bases, DAC 2014; for bits Lv, Kalla, Enescu, IEEE TCAD 2013.
-use Rattle.std.specs.Prelude.{◌≡◌, ℕ, ◌*◌, ◌↔◌, List, [], ◌++◌, codes, length, Some, Ok}
+use Rattle.std.specs.Prelude.{◌≡◌, ℕ, Bool, ◌*◌, ◌↔◌, List, [], ◌++◌, codes, length, Some, Ok}
 use Rattle.std.specs.List.{AllByRecursion}
 use Rattle.job_io.specs.Shelf.{Files}
 use Rattle.net_words.specs.Binding.{BoundNet}
@@ -13,7 +13,6 @@ use Rattle.circuit_model.specs.Out.{IsOut}
 use Rattle.stage_model.specs.First.{InFirstRanks}
 use Rattle.spec_compare.specs.ValueAt.{at_ones}
 use Rattle.job_words.specs.Operands.{Word}
-use Rattle.job_input.specs.CircuitOf.{CircuitOfText}
 use Rattle.job_input.specs.File.{Read}
 use Rattle.job_input.specs.JobOf.{IsJobOf}
 use Rattle.job_input.specs.Labelling.{labels_of}
@@ -22,14 +21,16 @@ use Rattle.job_input.specs.SettingOf.{SettingOf}
 use Rattle.job_input.specs.SettingValue.{SettingValue}
 use Rattle.answer_core.specs.DifferingLines.{differing_lines}
 use Rattle.answer_core.specs.Reply.{Reply, polynomial_line}
+use Rattle.answer_core.specs.Simpler.{SimplerOfText}
 
--- the text of a signature gives the setting, and the text of a netlist gives the circuit of its cycles under its words
+-- the text of a signature gives the setting, and the text of a netlist gives the circuit of its cycles under its words, or a simpler one
 pub record IsTaken (setting : SettingValue) (circuit : BoundNet) : Type 0 where
   pub signature : List ℕ
   pub is_setting : SettingOf signature (Ok setting)
   pub netlist : NetlistText
   pub cycles : ℕ
-  pub is_circuit : CircuitOfText setting.signature netlist cycles (Ok circuit)
+  pub simple : Bool
+  pub is_circuit : SimplerOfText setting.signature netlist cycles simple (Ok circuit)
 
 -- the held files of these names give the setting, and the job over so many cycles after the first
 pub record AreHeld (files : Files) (signature net : Word) (cycles : ℕ) (setting : SettingValue) (job : Circuit) : Type 0 where

@@ -1,6 +1,6 @@
 //! The lines of the input at which two functions are told apart.
 ghost use Rattle.std.specs.Prelude.{◌≡◌, ◌++◌, length, take, IfOk, OnOk};
-ghost use Rattle.answer_core.specs.DifferingLines.{word_line, word_lines as lines_of_words, value_line, differing_lines};
+ghost use Rattle.answer_core.specs.DifferingLines.{word_line, word_lines as lines_of_words, value_line, differing_lines, difference_at};
 
 use poly_mixed::Labels;
 use std::alloc::{AllocError, Global};
@@ -17,7 +17,7 @@ pub fn add_difference(
     second: &str,
     right: u64,
 ) -> Result<(), AllocError>
-    ensures { OnOk result (text.new.items ≡ text.old.items ++ differing_lines labels.now first.now second.now (record { input = take (length labels.now.words) input.now; left = left; right = right })) }
+    ensures { OnOk result (text.new.items ≡ text.old.items ++ differing_lines labels.now first.now second.now (difference_at labels.now input.now left right)) }
 {
     let lines = word_lines(alloc, labels, input)?;
     text.extend_from_slice(&lines)?;

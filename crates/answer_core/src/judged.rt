@@ -5,13 +5,12 @@ ghost use Rattle.poly_mixed.specs.Polynomial.{IsReduced};
 ghost use Rattle.circuit_model.specs.WellFormed.{IsWellFormed};
 ghost use Rattle.stage_model.specs.OutputInBits.{IsOutputInBits};
 ghost use Rattle.spec_expand.specs.Specification.{IsOverWords};
-ghost use Rattle.job_words.specs.Stop.{GivesBy};
 ghost use Rattle.job_words.specs.declared.fault.Fault.TheVariants.{Stage};
 ghost use Rattle.job_input.specs.Labelling.{labels_of};
 ghost use Rattle.job_input.specs.Setting.{setting_value, IsReady, IsTakenFor};
-ghost use Rattle.spec_compare.specs.Verdict.{comparison_of};
 ghost use Rattle.answer_core.specs.Abstraction.{taken_circuit};
 ghost use Rattle.answer_core.specs.Judged.{JudgedOf};
+ghost use Rattle.answer_core.specs.Replies.{ComparesAlone};
 
 use crate::stages::stage_stop;
 use gf_field::Field;
@@ -40,7 +39,7 @@ pub fn verdict<F: Field>(
     requires spec { IsOverWords (F.degree field.now) (length labels.now.words) spec.now }
     requires well { IsWellFormed (taken_circuit (setting_value (F.degree field.now) (F.product field.now) setting.now) circuit.now) }
     requires output { IsOutputInBits (taken_circuit (setting_value (F.degree field.now) (F.product field.now) setting.now) circuit.now) bits.now.terms }
-    ensures { GivesBy (comparison_of (length labels.now.words)) result (Within Stage (JudgedOf (setting_value (F.degree field.now) (F.product field.now) setting.now) circuit.now spec.now bound)) ⊥ ⊥ }
+    ensures { ComparesAlone labels.now result (Within Stage (JudgedOf (setting_value (F.degree field.now) (F.product field.now) setting.now) circuit.now spec.now bound)) }
 {
     let bases = setting.bases.as_slice();
     let expansion = match expand(alloc, field, spec, circuit, bases, bound) {

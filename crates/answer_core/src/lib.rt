@@ -1,5 +1,5 @@
-//! What the answers of all commands share: an output, the line of a polynomial, the polynomials of a circuit's output, the lines
-//! of a differing input, and why no output comes of a stage.
+//! What the answers of all commands share: an output, the circuit of all cycles or a simpler one, the line of a polynomial, the
+//! polynomials of a circuit's output, the lines of a differing input, and why no output comes of a stage.
 #![tactic(auto)]
 
 mod cuts;
@@ -9,6 +9,7 @@ mod line;
 mod named_fields;
 mod output;
 mod setting_labels;
+mod simpler;
 mod stages;
 mod words;
 
@@ -19,5 +20,6 @@ pub use line::polynomial_line;
 pub use named_fields::{base_field, tower_field};
 pub use output::Output;
 pub use setting_labels::labels;
+pub use simpler::{read_simpler, unroll_simpler};
 pub use stages::stage_stop;
 pub use words::in_words;

@@ -3,14 +3,9 @@ ghost use Rattle.std.specs.Prelude.{◌<◌, ◌^◌, length, IfOk, IfErr, OnOk}
 ghost use Rattle.net_core.specs.Sound.{IsSound};
 ghost use Rattle.net_words.specs.OneCycle.{IsOneCycle};
 ghost use Rattle.poly_mixed.specs.Text.{HasNames, HasWordNames};
-ghost use Rattle.stage_model.specs.Listing.{AreAllWithin, IsRefusal};
-ghost use Rattle.stage_model.specs.Mix.{IsMix};
-ghost use Rattle.stage_model.specs.Stage.{IsOfStage};
-ghost use Rattle.stage_model.specs.WordListing.{word_listing};
-ghost use Rattle.word_subst.specs.Recorded.{IsRecorded};
 ghost use Rattle.job_input.specs.Labelling.{labels_of};
 ghost use Rattle.job_input.specs.Setting.{setting_value, IsReady, IsTakenFor};
-ghost use Rattle.answer_core.specs.Abstraction.{taken_circuit, IsInWords};
+ghost use Rattle.answer_core.specs.Abstraction.{IsInWords, IsInNoWords, AreWordsWithin, IsWordRefusal, AreWordsRecorded};
 
 use abstraction::words_poly;
 use gf_field::Field;
@@ -34,14 +29,14 @@ pub fn in_words<F: Field, T: Steps>(
     requires taken { IsTakenFor (F.degree field.now) setting.now circuit.now }
     requires sound { IsSound circuit.now.net }
     requires is_bound { IsOneCycle circuit.now.net circuit.now.binding }
-    requires bits { IsOfStage (F.degree field.now) (F.product field.now) (IsMix (taken_circuit (setting_value (F.degree field.now) (F.product field.now) setting.now) circuit.now) 0) bits.terms }
+    requires bits { IsInNoWords (setting_value (F.degree field.now) (F.product field.now) setting.now) circuit.now bits.terms }
     requires few { length bits.terms < 2 ^ 32 }
     ensures words { IfOk result (λ poly. IsInWords (setting_value (F.degree field.now) (F.product field.now) setting.now) circuit.now poly.terms) }
     ensures named { IfOk result (λ poly. HasNames (labels_of (F.degree field.now) setting.now.signature.words) poly.terms) }
     ensures words_named { IfOk result (λ poly. HasWordNames (labels_of (F.degree field.now) setting.now.signature.words) poly.terms) }
-    ensures within { OnOk result (AreAllWithin (F.degree field.now) (F.product field.now) (word_listing (taken_circuit (setting_value (F.degree field.now) (F.product field.now) setting.now) circuit.now)) bound) }
-    ensures steps { OnOk result (IsRecorded (taken_circuit (setting_value (F.degree field.now) (F.product field.now) setting.now) circuit.now) (T.steps steps.old) (T.steps steps.new)) }
-    ensures fault { IfErr result (IsRefusal (F.degree field.now) (F.product field.now) (word_listing (taken_circuit (setting_value (F.degree field.now) (F.product field.now) setting.now) circuit.now)) bound) }
+    ensures within { OnOk result (AreWordsWithin (setting_value (F.degree field.now) (F.product field.now) setting.now) circuit.now bound) }
+    ensures steps { OnOk result (AreWordsRecorded (setting_value (F.degree field.now) (F.product field.now) setting.now) circuit.now (T.steps steps.old) (T.steps steps.new)) }
+    ensures fault { IfErr result (IsWordRefusal (setting_value (F.degree field.now) (F.product field.now) setting.now) circuit.now bound) }
 {
     let bases = setting.bases.as_slice();
     match words_poly(alloc, field, circuit, bases, bits, bound, steps) {

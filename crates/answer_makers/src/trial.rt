@@ -22,7 +22,7 @@ use answer_core::{
 };
 use gf_field::{Field, Ring2k};
 use irreducible::Proved;
-use job_input::{Setting, base_field};
+use job_input::{Setting, field_of_modulus};
 use job_words::{Stop, TrialWords};
 use make_trial::{product_spec, trial_circuit, trial_index, trial_place, trial_setting};
 use net_words::Combinational;
@@ -43,7 +43,7 @@ struct Counted {
 pub fn answer(alloc: Global, words: &TrialWords) -> Result<Output, Stop>
     ensures { GivesBy reply_of result (TrialAnswer words.now.number words.now.modulus words.now.terms) ⊥ ⊥ }
 {
-    match base_field(words.modulus) {
+    match field_of_modulus(words.modulus) {
         Ok(ring) => over(alloc, &ring, words),
         Err(stop) => Err(stop),
     }

@@ -30,7 +30,7 @@ use Rattle.answer_polynomials.specs.Abstract.{AbstractReply}
 use Rattle.answer_polynomials.specs.Bits.{BitsReply}
 use Rattle.answer_core.proofs.EqualLabelLemmas.{are_labels, few_bits}
 use Rattle.answer_core.proofs.PrintedLemmas.{words_alone, words_values}
-use Rattle.answer_core.proofs.TakenLemmas.{bases_long, circuit_flat, circuit_roles, circuit_well}
+use Rattle.answer_core.proofs.SimplerLemmas.{simpler_long, simpler_one_cycle, simpler_roles, simpler_well}
 use Rattle.job_input.proofs.CountLemmas.{as_many}
 use Rattle.stage_model.proofs.SharedLemmas.{no_names}
 
@@ -42,10 +42,10 @@ module _ (setting : SettingValue) (circuit : BoundNet) (taken : IsTaken setting 
   sound = setting_sound taken.signature setting taken.is_setting
 
   pub well : IsWellFormed whole
-  well = circuit_well setting circuit sound taken.netlist taken.cycles taken.is_circuit
+  well = simpler_well setting circuit sound taken.netlist taken.cycles taken.simple taken.is_circuit
 
   pub roles : HaveRoles setting.signature.words circuit.binding.words
-  roles = circuit_roles setting circuit sound taken.netlist taken.cycles taken.is_circuit
+  roles = simpler_roles setting circuit sound taken.netlist taken.cycles taken.simple taken.is_circuit
 
   -- there are as many labels as words
   pub count : length whole.words ≡ length (word_labels setting.k setting.signature.words)
@@ -68,8 +68,8 @@ module _ (setting : SettingValue) (circuit : BoundNet) (taken : IsTaken setting 
   -- what comes of `bits` is the output's polynomial in bits
   pub in_bits : (bound : ℕ) (reply : Reply) → (is : BitsReply setting circuit bound (Ok reply)) → IsOutputInBits whole is.0
   in_bits bound reply (ts, found, exactly) =
-      let flat = circuit_flat setting circuit sound taken.netlist taken.cycles taken.is_circuit in
-      let long = bases_long setting circuit sound taken.netlist taken.cycles taken.is_circuit in
+      let flat = (simpler_one_cycle setting circuit sound taken.netlist taken.cycles taken.simple taken.is_circuit).1.flat.latches in
+      let long = simpler_long setting circuit sound taken.netlist taken.cycles taken.simple taken.is_circuit in
       let stage = (same_stage setting.k setting.product circuit setting.bases (output_basis circuit.binding.words setting.bases) (length circuit.net.gates) ts long refl).0 found.0 in
       (last_is_output whole well flat ts).0 stage
 

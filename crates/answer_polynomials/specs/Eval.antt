@@ -1,9 +1,10 @@
 -- The command `eval`: the output word's element where the words have given elements. Source: this project's own.
-use Rattle.std.specs.Prelude.{◌≡◌, ℕ, List, length, Option, Ok, Err}
+use Rattle.std.specs.Prelude.{◌≡◌, ℕ, List, length, map, string_bytes, Option, Ok, Err}
 use Rattle.outcome.specs.Outcome.{Outcome, ◌>>=◌, Within}
 use Rattle.job_io.specs.Shelf.{Files}
 use Rattle.net_words.specs.Binding.{BoundNet}
 use Rattle.circuit_model.specs.Out.{IsOut}
+use Rattle.job_words.specs.declared.words.EvalWords.{EvalWords}
 use Rattle.job_words.specs.Operands.{Word}
 use Rattle.job_words.specs.declared.fault.Fault.{Fault}
 use Rattle.job_words.specs.declared.fault.Fault.TheVariants as faults
@@ -42,3 +43,11 @@ abbrev pub EvalAnswer : Option Files → SettingValue → Word → List Word →
 EvalAnswer held setting net values cycles = do
   netlist ← NetlistIn held setting.signature net
   EvalOver setting net netlist values cycles
+
+-- its answer to the command's words
+abbrev pub EvalAnswerTo : SettingValue → EvalWords → Option Files → Outcome Fault Reply
+EvalAnswerTo setting words held = EvalAnswer held setting words.net.now (map string_bytes words.values.now) words.cycles
+
+-- after the netlist was read
+abbrev pub EvalAfter : SettingValue → EvalWords → BoundNet → Outcome Fault Reply
+EvalAfter setting words netlist = EvalOver setting words.net.now netlist (map string_bytes words.values.now) words.cycles

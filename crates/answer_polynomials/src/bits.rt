@@ -1,16 +1,14 @@
 //! The command `bits`: the output word's polynomial in the bits of the input words.
 ghost use Rattle.std.specs.Prelude.{◌≡◌, ◌≤◌};
-ghost use Rattle.job_io.specs.Counts.{Rose};
-ghost use Rattle.job_words.specs.Stop.{GivesBy};
 ghost use Rattle.job_input.specs.Setting.{setting_value, IsReady, IsTakenFor};
-ghost use Rattle.answer_core.specs.Reply.{reply_of};
-ghost use Rattle.answer_polynomials.specs.Bits.{BitsReply, BitsAnswer};
+ghost use Rattle.answer_core.specs.Replies.{Replies, RepliesAlone};
+ghost use Rattle.answer_polynomials.specs.Bits.{BitsReply, BitsAnswerTo};
 
-use answer_core::{Output, labels, last_cut, polynomial_line, stage_stop};
+use answer_core::{Output, labels, last_cut, polynomial_line, read_simpler, stage_stop};
 use gf_field::Field;
-use job_input::{Setting, read_circuit};
+use job_input::Setting;
 use job_io::Shelf;
-use job_words::{NetWords, Stop};
+use job_words::{SimplifyWords, Stop};
 use net_words::Combinational;
 use poly_mixed::NoSteps;
 use std::alloc::Global;
@@ -20,16 +18,22 @@ pub fn answer<F: Field, S: Shelf>(
     alloc: Global,
     field: &F,
     setting: &Setting,
-    words: &NetWords,
+    words: &SimplifyWords,
     shelf: &mut S,
 ) -> Result<Output, Stop>
     requires { IsReady (F.degree field.now) (F.product field.now) setting.now }
     ensures held { S.held shelf.new ≡ S.held shelf.old }
     ensures never_fall { (S.faults shelf.old ≤ S.faults shelf.new) × (S.misses shelf.old ≤ S.misses shelf.new) }
-    ensures gives { GivesBy reply_of result (BitsAnswer (S.held shelf.old) (setting_value (F.degree field.now) (F.product field.now) setting.now) words.now.net.now words.now.terms words.now.cycles)
-        (Rose (S.misses shelf.old) (S.misses shelf.new)) (Rose (S.faults shelf.old) (S.faults shelf.new)) }
+    ensures gives { Replies S.held S.misses S.faults shelf.old shelf.new result (BitsAnswerTo (setting_value (F.degree field.now) (F.product field.now) setting.now) words.now) }
 {
-    match read_circuit(alloc, shelf, setting, words.net, words.cycles) {
+    match read_simpler(
+        alloc,
+        shelf,
+        setting,
+        words.net,
+        words.cycles,
+        words.simplify,
+    ) {
         Ok(circuit) => reply(alloc, field, setting, &circuit, words.terms),
         Err(stop) => Err(stop),
     }
@@ -45,7 +49,7 @@ fn reply<F: Field>(
 ) -> Result<Output, Stop>
     requires ready { IsReady (F.degree field.now) (F.product field.now) setting.now }
     requires taken { IsTakenFor (F.degree field.now) setting.now circuit.now }
-    ensures { GivesBy reply_of result (BitsReply (setting_value (F.degree field.now) (F.product field.now) setting.now) circuit.now bound) ⊥ ⊥ }
+    ensures { RepliesAlone result (BitsReply (setting_value (F.degree field.now) (F.product field.now) setting.now) circuit.now bound) }
 {
     let labels = labels(alloc, field, setting)?;
     let poly = match last_cut(alloc, field, setting, circuit, bound, &mut NoSteps) {

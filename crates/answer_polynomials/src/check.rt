@@ -1,6 +1,5 @@
 //! The command `check`: whether a netlist computes its specification, or the input at which it does not.
-ghost use Rattle.std.specs.Prelude.{◌≡◌, ◌≤◌, ◌++◌, codes, length, take, IfOk};
-ghost use Rattle.job_io.specs.Counts.{Rose};
+ghost use Rattle.std.specs.Prelude.{◌≡◌, ◌≤◌, length, IfOk};
 ghost use Rattle.circuit_model.specs.WellFormed.{IsWellFormed};
 ghost use Rattle.stage_model.specs.OutputInBits.{IsOutputInBits};
 ghost use Rattle.spec_expand.specs.Specification.{IsOverWords};
@@ -8,19 +7,20 @@ ghost use Rattle.job_words.specs.Stop.{GivesBy};
 ghost use Rattle.job_input.specs.Labelling.{labels_of};
 ghost use Rattle.job_input.specs.Setting.{setting_value, IsReady, IsTakenFor};
 ghost use Rattle.spec_compare.specs.Verdict.{comparison_of};
-ghost use Rattle.answer_core.specs.DifferingLines.{differing_lines};
+ghost use Rattle.answer_core.specs.DifferingLines.{difference_at};
+ghost use Rattle.answer_core.specs.Replies.{Replies, RepliesAlone};
 ghost use Rattle.answer_core.specs.Reply.{reply_of};
 ghost use Rattle.answer_core.specs.Abstraction.{taken_circuit};
-ghost use Rattle.answer_polynomials.specs.Check.{WordsLine, CheckBeside, CheckReply, CheckUnrolled, CheckOver, CheckAnswer, check_reply};
+ghost use Rattle.answer_polynomials.specs.Check.{WordsLine, CheckBeside, CheckReply, CheckAfterBoth, CheckAfter, CheckAnswerTo, check_reply, rejected_lines};
 
 use answer_core::{
     Output, add_difference, copied, in_words, labels, last_cut, polynomial_line, stage_stop,
-    verdict,
+    unroll_simpler, verdict,
 };
 use gf_field::Field;
-use job_input::{BoundNetlist, Setting, read_netlist, read_specification, unroll_netlist};
+use job_input::{BoundNetlist, Setting, read_netlist, read_specification};
 use job_io::Shelf;
-use job_words::{PairWords, Stop};
+use job_words::{SimplifyPairWords, Stop};
 use net_words::Combinational;
 use poly_mixed::{Labels, NoSteps, Poly};
 use spec_compare::Verdict;
@@ -39,14 +39,13 @@ pub fn answer<F: Field, S: Shelf>(
     alloc: Global,
     field: &F,
     setting: &Setting,
-    words: &PairWords,
+    words: &SimplifyPairWords,
     shelf: &mut S,
 ) -> Result<Output, Stop>
     requires { IsReady (F.degree field.now) (F.product field.now) setting.now }
     ensures held { S.held shelf.new ≡ S.held shelf.old }
     ensures never_fall { (S.faults shelf.old ≤ S.faults shelf.new) × (S.misses shelf.old ≤ S.misses shelf.new) }
-    ensures gives { GivesBy reply_of result (CheckAnswer (S.held shelf.old) (setting_value (F.degree field.now) (F.product field.now) setting.now) words.now.net.now words.now.other.now words.now.terms words.now.cycles)
-        (Rose (S.misses shelf.old) (S.misses shelf.new)) (Rose (S.faults shelf.old) (S.faults shelf.new)) }
+    ensures gives { Replies S.held S.misses S.faults shelf.old shelf.new result (CheckAnswerTo (setting_value (F.degree field.now) (F.product field.now) setting.now) words.now) }
 {
     match read_netlist(alloc, shelf, setting, words.net) {
         Ok(netlist) => over(alloc, field, setting, words, netlist, shelf),
@@ -59,7 +58,7 @@ fn over<F: Field, S: Shelf>(
     alloc: Global,
     field: &F,
     setting: &Setting,
-    words: &PairWords,
+    words: &SimplifyPairWords,
     netlist: BoundNetlist,
     shelf: &mut S,
 ) -> Result<Output, Stop>
@@ -67,8 +66,7 @@ fn over<F: Field, S: Shelf>(
     requires taken { IsTakenFor (F.degree field.now) setting.now netlist }
     ensures held { S.held shelf.new ≡ S.held shelf.old }
     ensures never_fall { (S.faults shelf.old ≤ S.faults shelf.new) × (S.misses shelf.old ≤ S.misses shelf.new) }
-    ensures gives { GivesBy reply_of result (CheckOver (S.held shelf.old) (setting_value (F.degree field.now) (F.product field.now) setting.now) words.now.net.now netlist words.now.other.now words.now.terms words.now.cycles)
-        (Rose (S.misses shelf.old) (S.misses shelf.new)) (Rose (S.faults shelf.old) (S.faults shelf.new)) }
+    ensures gives { Replies S.held S.misses S.faults shelf.old shelf.new result (CheckAfter (setting_value (F.degree field.now) (F.product field.now) setting.now) words.now netlist) }
 {
     let labels = labels(alloc, field, setting)?;
     match read_specification(alloc, field, shelf, &labels, words.other) {
@@ -83,7 +81,7 @@ fn unrolled<F: Field>(
     field: &F,
     setting: &Setting,
     labels: &Labels,
-    words: &PairWords,
+    words: &SimplifyPairWords,
     netlist: BoundNetlist,
     spec: &Spec,
 ) -> Result<Output, Stop>
@@ -91,9 +89,9 @@ fn unrolled<F: Field>(
     requires taken { IsTakenFor (F.degree field.now) setting.now netlist }
     requires labels { labels.now ≡ labels_of (F.degree field.now) setting.now.signature.words }
     requires spec { IsOverWords (F.degree field.now) (length labels.now.words) spec.now }
-    ensures { GivesBy reply_of result (CheckUnrolled (setting_value (F.degree field.now) (F.product field.now) setting.now) words.now.net.now netlist spec.now words.now.terms words.now.cycles) ⊥ ⊥ }
+    ensures { RepliesAlone result (CheckAfterBoth (setting_value (F.degree field.now) (F.product field.now) setting.now) words.now netlist spec.now) }
 {
-    match unroll_netlist(alloc, words.net, netlist, words.cycles) {
+    match unroll_simpler(alloc, words.net, netlist, words.cycles, words.simplify) {
         Ok(circuit) => reply(alloc, field, setting, labels, &circuit, spec, words.terms),
         Err(stop) => Err(stop),
     }
@@ -113,7 +111,7 @@ fn reply<F: Field>(
     requires taken { IsTakenFor (F.degree field.now) setting.now circuit.now }
     requires labels { labels.now ≡ labels_of (F.degree field.now) setting.now.signature.words }
     requires spec { IsOverWords (F.degree field.now) (length labels.now.words) spec.now }
-    ensures { GivesBy reply_of result (CheckReply (setting_value (F.degree field.now) (F.product field.now) setting.now) circuit.now spec.now bound) ⊥ ⊥ }
+    ensures { RepliesAlone result (CheckReply (setting_value (F.degree field.now) (F.product field.now) setting.now) circuit.now spec.now bound) }
 {
     match print_words(alloc, field, setting, labels, circuit, bound) {
         Ok(printed) => beside(
@@ -169,7 +167,7 @@ fn beside<F: Field>(
     requires spec { IsOverWords (F.degree field.now) (length labels.now.words) spec.now }
     requires well { IsWellFormed (taken_circuit (setting_value (F.degree field.now) (F.product field.now) setting.now) circuit.now) }
     requires output { IsOutputInBits (taken_circuit (setting_value (F.degree field.now) (F.product field.now) setting.now) circuit.now) printed.now.bits.terms }
-    ensures { GivesBy reply_of result (CheckBeside (setting_value (F.degree field.now) (F.product field.now) setting.now) circuit.now spec.now bound printed.now.line.items) ⊥ ⊥ }
+    ensures { RepliesAlone result (CheckBeside (setting_value (F.degree field.now) (F.product field.now) setting.now) circuit.now spec.now bound printed.now.line.items) }
 {
     match verdict(
         alloc,
@@ -220,7 +218,7 @@ fn rejected_text(
     left: u64,
     right: u64,
 ) -> Result<Vec<u8>, AllocError>
-    ensures { IfOk result (λ text. text.items ≡ codes "rejected\n" ++ (line.now ++ differing_lines labels.now (codes "netlist") (codes "specification") (record { input = take (length labels.now.words) input.now; left = left; right = right }))) }
+    ensures { IfOk result (λ text. text.items ≡ rejected_lines labels.now line.now (difference_at labels.now input.now left right)) }
 {
     let mut text = Vec::from_slice(alloc, b"rejected\n")?;
     text.extend_from_slice(line)?;

@@ -1,14 +1,12 @@
 //! The command `eval`: the output word's element where the words have given elements.
-ghost use Rattle.std.specs.Prelude.{◌≡◌, ◌≤◌, ◌<◌, ◌^◌, ℕ, length, map, string_bytes, IfOk};
+ghost use Rattle.std.specs.Prelude.{◌≡◌, ◌≤◌, ◌<◌, ◌^◌, ℕ, length, IfOk};
 ghost use Rattle.lists.specs.Lists.{Has};
-ghost use Rattle.job_io.specs.Counts.{Rose};
 ghost use Rattle.circuit_model.specs.Out.{IsOut};
-ghost use Rattle.job_words.specs.Stop.{GivesBy};
 ghost use Rattle.job_input.specs.Labelling.{labels_of};
 ghost use Rattle.job_input.specs.Setting.{setting_value, IsReady, IsTakenFor};
-ghost use Rattle.answer_core.specs.Reply.{reply_of};
+ghost use Rattle.answer_core.specs.Replies.{Replies, RepliesAlone};
 ghost use Rattle.answer_core.specs.Abstraction.{taken_circuit};
-ghost use Rattle.answer_polynomials.specs.Eval.{EvalReply, EvalAt, EvalOver, EvalAnswer};
+ghost use Rattle.answer_polynomials.specs.Eval.{EvalReply, EvalAt, EvalAfter, EvalAnswerTo};
 
 use crate::values::read_values;
 use answer_core::{Output, add_word, labels};
@@ -31,8 +29,7 @@ pub fn answer<F: Field, S: Shelf>(
     requires { IsReady (F.degree field.now) (F.product field.now) setting.now }
     ensures held { S.held shelf.new ≡ S.held shelf.old }
     ensures never_fall { (S.faults shelf.old ≤ S.faults shelf.new) × (S.misses shelf.old ≤ S.misses shelf.new) }
-    ensures gives { GivesBy reply_of result (EvalAnswer (S.held shelf.old) (setting_value (F.degree field.now) (F.product field.now) setting.now) words.now.net.now (map string_bytes words.now.values.now) words.now.cycles)
-        (Rose (S.misses shelf.old) (S.misses shelf.new)) (Rose (S.faults shelf.old) (S.faults shelf.new)) }
+    ensures gives { Replies S.held S.misses S.faults shelf.old shelf.new result (EvalAnswerTo (setting_value (F.degree field.now) (F.product field.now) setting.now) words.now) }
 {
     match read_netlist(alloc, shelf, setting, words.net) {
         Ok(netlist) => over(alloc, field, setting, words, netlist),
@@ -50,7 +47,7 @@ fn over<F: Field>(
 ) -> Result<Output, Stop>
     requires ready { IsReady (F.degree field.now) (F.product field.now) setting.now }
     requires taken { IsTakenFor (F.degree field.now) setting.now netlist }
-    ensures { GivesBy reply_of result (EvalOver (setting_value (F.degree field.now) (F.product field.now) setting.now) words.now.net.now netlist (map string_bytes words.now.values.now) words.now.cycles) ⊥ ⊥ }
+    ensures { RepliesAlone result (EvalAfter (setting_value (F.degree field.now) (F.product field.now) setting.now) words.now netlist) }
 {
     let labels = labels(alloc, field, setting)?;
     match read_values(alloc, field, labels.words(), words.values) {
@@ -74,7 +71,7 @@ fn at<F: Field>(
     requires labels { labels.now ≡ labels_of (F.degree field.now) setting.now.signature.words }
     requires long { length xs.now ≡ length labels.now.words }
     requires elements { (x : ℕ) → Has xs.now x → x < 2 ^ F.degree field.now }
-    ensures { GivesBy reply_of result (EvalAt (setting_value (F.degree field.now) (F.product field.now) setting.now) words.now.net.now netlist xs.now words.now.cycles) ⊥ ⊥ }
+    ensures { RepliesAlone result (EvalAt (setting_value (F.degree field.now) (F.product field.now) setting.now) words.now.net.now netlist xs.now words.now.cycles) }
 {
     match unroll_netlist(alloc, words.net, netlist, words.cycles) {
         Ok(circuit) => reply(alloc, field, setting, labels, &circuit, xs),
@@ -96,7 +93,7 @@ fn reply<F: Field>(
     requires labels { labels.now ≡ labels_of (F.degree field.now) setting.now.signature.words }
     requires long { length xs.now ≡ length labels.now.words }
     requires elements { (x : ℕ) → Has xs.now x → x < 2 ^ F.degree field.now }
-    ensures { GivesBy reply_of result (EvalReply (setting_value (F.degree field.now) (F.product field.now) setting.now) circuit.now xs.now) ⊥ ⊥ }
+    ensures { RepliesAlone result (EvalReply (setting_value (F.degree field.now) (F.product field.now) setting.now) circuit.now xs.now) }
 {
     let element = output_at(alloc, field, setting, circuit, xs)?;
     let mut text = Vec::new(alloc);

@@ -1,22 +1,21 @@
 //! The command `same`: whether two netlists compute one function, or the input at which they are told apart.
-ghost use Rattle.std.specs.Prelude.{◌≡◌, ◌≤◌, ◌++◌, codes, length, take, IfOk};
+ghost use Rattle.std.specs.Prelude.{◌≡◌, ◌≤◌, length, IfOk};
 ghost use Rattle.outcome.specs.Outcome.{Within};
-ghost use Rattle.job_io.specs.Counts.{Rose};
-ghost use Rattle.job_words.specs.Stop.{GivesBy};
 ghost use Rattle.job_words.specs.declared.fault.Fault.TheVariants.{Stage};
 ghost use Rattle.job_input.specs.Labelling.{labels_of};
 ghost use Rattle.job_input.specs.Setting.{setting_value, IsReady, IsTakenFor};
 ghost use Rattle.spec_compare.specs.Verdict.{comparison_of};
-ghost use Rattle.answer_core.specs.DifferingLines.{differing_lines};
+ghost use Rattle.answer_core.specs.DifferingLines.{difference_at};
+ghost use Rattle.answer_core.specs.Replies.{Replies, RepliesAlone, ComparesAlone};
 ghost use Rattle.answer_core.specs.Reply.{reply_of};
-ghost use Rattle.answer_polynomials.specs.Same.{SameOf, SameReply, SameSecond, SameUnrolled, SameBeside, SameAnswer, same_reply};
+ghost use Rattle.answer_polynomials.specs.Same.{SameOf, SameReply, SameAfterFirst, SameAfterBoth, SameAfter, SameAnswerTo, same_reply, differ_lines};
 
 use crate::second_stages::second_stage_stop;
-use answer_core::{Output, add_difference, last_cut, stage_stop};
+use answer_core::{Output, add_difference, last_cut, stage_stop, unroll_simpler};
 use gf_field::Field;
-use job_input::{BoundNetlist, Setting, labels_for, read_netlist, unroll_netlist};
+use job_input::{BoundNetlist, Setting, labels_for, read_netlist};
 use job_io::Shelf;
-use job_words::{PairWords, Stop};
+use job_words::{SimplifyPairWords, Stop};
 use net_words::Combinational;
 use poly_mixed::{Labels, NoSteps};
 use spec_compare::{Verdict, compare};
@@ -27,14 +26,13 @@ pub fn answer<F: Field, S: Shelf>(
     alloc: Global,
     field: &F,
     setting: &Setting,
-    words: &PairWords,
+    words: &SimplifyPairWords,
     shelf: &mut S,
 ) -> Result<Output, Stop>
     requires { IsReady (F.degree field.now) (F.product field.now) setting.now }
     ensures held { S.held shelf.new ≡ S.held shelf.old }
     ensures never_fall { (S.faults shelf.old ≤ S.faults shelf.new) × (S.misses shelf.old ≤ S.misses shelf.new) }
-    ensures gives { GivesBy reply_of result (SameAnswer (S.held shelf.old) (setting_value (F.degree field.now) (F.product field.now) setting.now) words.now.net.now words.now.other.now words.now.terms words.now.cycles)
-        (Rose (S.misses shelf.old) (S.misses shelf.new)) (Rose (S.faults shelf.old) (S.faults shelf.new)) }
+    ensures gives { Replies S.held S.misses S.faults shelf.old shelf.new result (SameAnswerTo (setting_value (F.degree field.now) (F.product field.now) setting.now) words.now) }
 {
     match read_netlist(alloc, shelf, setting, words.net) {
         Ok(netlist) => beside(alloc, field, setting, words, netlist, shelf),
@@ -47,7 +45,7 @@ fn beside<F: Field, S: Shelf>(
     alloc: Global,
     field: &F,
     setting: &Setting,
-    words: &PairWords,
+    words: &SimplifyPairWords,
     netlist: BoundNetlist,
     shelf: &mut S,
 ) -> Result<Output, Stop>
@@ -55,8 +53,7 @@ fn beside<F: Field, S: Shelf>(
     requires taken { IsTakenFor (F.degree field.now) setting.now netlist }
     ensures held { S.held shelf.new ≡ S.held shelf.old }
     ensures never_fall { (S.faults shelf.old ≤ S.faults shelf.new) × (S.misses shelf.old ≤ S.misses shelf.new) }
-    ensures gives { GivesBy reply_of result (SameBeside (S.held shelf.old) (setting_value (F.degree field.now) (F.product field.now) setting.now) words.now.net.now netlist words.now.other.now words.now.terms words.now.cycles)
-        (Rose (S.misses shelf.old) (S.misses shelf.new)) (Rose (S.faults shelf.old) (S.faults shelf.new)) }
+    ensures gives { Replies S.held S.misses S.faults shelf.old shelf.new result (SameAfter (setting_value (F.degree field.now) (F.product field.now) setting.now) words.now netlist) }
 {
     match read_netlist(alloc, shelf, setting, words.other) {
         Ok(second) => unrolled(alloc, field, setting, words, netlist, second),
@@ -69,16 +66,16 @@ fn unrolled<F: Field>(
     alloc: Global,
     field: &F,
     setting: &Setting,
-    words: &PairWords,
+    words: &SimplifyPairWords,
     netlist: BoundNetlist,
     second: BoundNetlist,
 ) -> Result<Output, Stop>
     requires ready { IsReady (F.degree field.now) (F.product field.now) setting.now }
     requires first { IsTakenFor (F.degree field.now) setting.now netlist }
     requires second { IsTakenFor (F.degree field.now) setting.now second }
-    ensures { GivesBy reply_of result (SameUnrolled (setting_value (F.degree field.now) (F.product field.now) setting.now) words.now.net.now netlist words.now.other.now second words.now.terms words.now.cycles) ⊥ ⊥ }
+    ensures { RepliesAlone result (SameAfterBoth (setting_value (F.degree field.now) (F.product field.now) setting.now) words.now netlist second) }
 {
-    match unroll_netlist(alloc, words.net, netlist, words.cycles) {
+    match unroll_simpler(alloc, words.net, netlist, words.cycles, words.simplify) {
         Ok(circuit) => second_unrolled(alloc, field, setting, words, &circuit, second),
         Err(stop) => Err(stop),
     }
@@ -89,16 +86,16 @@ fn second_unrolled<F: Field>(
     alloc: Global,
     field: &F,
     setting: &Setting,
-    words: &PairWords,
+    words: &SimplifyPairWords,
     circuit: &Combinational,
     second: BoundNetlist,
 ) -> Result<Output, Stop>
     requires ready { IsReady (F.degree field.now) (F.product field.now) setting.now }
     requires first { IsTakenFor (F.degree field.now) setting.now circuit.now }
     requires second { IsTakenFor (F.degree field.now) setting.now second }
-    ensures { GivesBy reply_of result (SameSecond (setting_value (F.degree field.now) (F.product field.now) setting.now) circuit.now words.now.other.now second words.now.terms words.now.cycles) ⊥ ⊥ }
+    ensures { RepliesAlone result (SameAfterFirst (setting_value (F.degree field.now) (F.product field.now) setting.now) words.now circuit.now second) }
 {
-    match unroll_netlist(alloc, words.other, second, words.cycles) {
+    match unroll_simpler(alloc, words.other, second, words.cycles, words.simplify) {
         Ok(more) => reply(alloc, field, setting, circuit, &more, words.terms),
         Err(stop) => Err(stop),
     }
@@ -116,7 +113,7 @@ fn reply<F: Field>(
     requires ready { IsReady (F.degree field.now) (F.product field.now) setting.now }
     requires first { IsTakenFor (F.degree field.now) setting.now circuit.now }
     requires second { IsTakenFor (F.degree field.now) setting.now other.now }
-    ensures { GivesBy reply_of result (SameReply (setting_value (F.degree field.now) (F.product field.now) setting.now) circuit.now other.now bound) ⊥ ⊥ }
+    ensures { RepliesAlone result (SameReply (setting_value (F.degree field.now) (F.product field.now) setting.now) circuit.now other.now bound) }
 {
     let labels = labels_for(alloc, setting.signature.words(), field.k())?;
     match verdict(alloc, field, setting, &labels, circuit, other, bound) {
@@ -142,7 +139,7 @@ fn verdict<F: Field>(
     requires first { IsTakenFor (F.degree field.now) setting.now circuit.now }
     requires second { IsTakenFor (F.degree field.now) setting.now other.now }
     requires labels { labels.now ≡ labels_of (F.degree field.now) setting.now.signature.words }
-    ensures { GivesBy (comparison_of (length labels.now.words)) result (Within Stage (SameOf (setting_value (F.degree field.now) (F.product field.now) setting.now) circuit.now other.now bound)) ⊥ ⊥ }
+    ensures { ComparesAlone labels.now result (Within Stage (SameOf (setting_value (F.degree field.now) (F.product field.now) setting.now) circuit.now other.now bound)) }
 {
     let left = match last_cut(alloc, field, setting, circuit, bound, &mut NoSteps) {
         Ok(left) => left,
@@ -187,7 +184,7 @@ fn differ_text(
     left: u64,
     right: u64,
 ) -> Result<Vec<u8>, AllocError>
-    ensures { IfOk result (λ text. text.items ≡ codes "differ\n" ++ differing_lines labels.now (codes "first") (codes "second") (record { input = take (length labels.now.words) input.now; left = left; right = right })) }
+    ensures { IfOk result (λ text. text.items ≡ differ_lines labels.now (difference_at labels.now input.now left right)) }
 {
     let mut text = Vec::from_slice(alloc, b"differ\n")?;
     add_difference(

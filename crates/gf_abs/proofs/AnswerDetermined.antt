@@ -1,5 +1,5 @@
 -- At most one answer comes of the words, where the shelf tells what it holds.
-use Rattle.std.proofs.Common.{◌≡◌, ◌⊎◌, ◌∙◌, ap, sym, subst, inl, inr, ℕ, ◌*◌, ◌^◌, ◌<◌, List, length, Option, None, Some, Ok, Err, arith}
+use Rattle.std.proofs.Common.{◌≡◌, ◌⊎◌, ◌∙◌, ap, sym, subst, inl, inr, ℕ, Bool, ◌*◌, ◌^◌, ◌<◌, List, length, Option, None, Some, Ok, Err, arith}
 use Rattle.std.specs.FinMap.{get}
 use Rattle.lists.specs.laws.OptionLaws.{same_some}
 use Rattle.outcome.proofs.DeterminedLemmas.{determined_exactly}
@@ -17,7 +17,7 @@ use Rattle.job_input.specs.File.{Read}
 use Rattle.job_input.specs.Labelling.{labels_of}
 use Rattle.job_input.specs.CircuitOf.{CircuitIn, CircuitOf, UnrolledIn}
 use Rattle.job_input.specs.HierarchyIn.{HierarchyIn, HierarchyOf}
-use Rattle.job_input.specs.NetlistOf.{BoundNetOf, NetlistIn, by_ending}
+use Rattle.job_input.specs.NetlistOf.{BoundNetOf, NetlistIn, NetlistText, by_ending}
 use Rattle.job_input.specs.SettingOf.{SignedOf, SignedValue, SettingWith}
 use Rattle.job_input.specs.SettingSound.{IsSoundSetting}
 use Rattle.job_input.specs.SettingValue.{SettingValue}
@@ -31,6 +31,9 @@ use Rattle.job_input.proofs.SettingDetermined.{signed_determined, with_determine
 use Rattle.job_input.proofs.SettingSoundLemmas.{setting_sound}
 use Rattle.job_input.proofs.SpecificationDetermined.{specification_determined}
 use Rattle.job_input.proofs.TableDetermined.{table_determined as table_text_determined}
+use Rattle.answer_core.specs.Simpler.{SimplerIn, SimplerOf, SimplerUnrolledIn}
+use Rattle.answer_core.proofs.SimplerLemmas.{one_simpler}
+use Rattle.answer_core.proofs.TakenLemmas.{one_cycle}
 use Rattle.gf_abs.specs.Answer.{Spelled, ActionAnswer, SignedAnswer, JobAnswer, Answer}
 use Rattle.answer_polynomials.specs.Bits.{BitsReply}
 use Rattle.answer_polynomials.specs.Abstract.{AbstractReply}
@@ -116,6 +119,17 @@ module _ (files : Files) where
   file_circuit_determined : (setting : SettingValue) (net : Word) (cycles : ℕ) → Determined (CircuitIn (Some files) setting.signature net cycles)
   file_circuit_determined setting net cycles = determined_after (NetlistIn (Some files) setting.signature net) (λ netlist. UnrolledIn net netlist cycles) (file_netlist_determined setting net) (λ netlist taken. unrolled_determined net netlist cycles)
 
+  -- of these circuits, or of simpler ones
+  unrolled_with_determined : (setting : SettingValue) (sound : IsSoundSetting setting) (net : Word) (netlist : BoundNet) (text : NetlistText) → BoundNetOf setting.signature text (Ok netlist) → (cycles : ℕ) (simple : Bool) → Determined (SimplerUnrolledIn net netlist cycles simple)
+  unrolled_with_determined setting sound net netlist text is cycles simple =
+      determined_after (UnrolledIn net netlist cycles) (λ circuit. SimplerOf simple circuit) (unrolled_determined net netlist cycles)
+      (λ circuit of. one_simpler simple circuit (one_cycle setting circuit sound text cycles (netlist, is, of)).0)
+
+  file_simpler_determined : (setting : SettingValue) (sound : IsSoundSetting setting) (net : Word) (cycles : ℕ) (simple : Bool) → Determined (SimplerIn (Some files) setting.signature net cycles simple)
+  file_simpler_determined setting sound net cycles simple =
+      determined_after (CircuitIn (Some files) setting.signature net cycles) (λ circuit. SimplerOf simple circuit) (file_circuit_determined setting net cycles)
+      (λ circuit of. one_simpler simple circuit (one_cycle setting circuit sound (by_ending net of.1.0) cycles (of.0, of.1.2, of.2)).0)
+
   pub said_determined : (setting : SettingValue) (file : Word) → Determined (SpecificationIn (Some files) (labels_of setting.k setting.signature.words) setting.k setting.product file)
   said_determined setting file =
       let labels = labels_of setting.k setting.signature.words in
@@ -149,23 +163,23 @@ module _ (files : Files) where
       (λ design taken. compose_determined setting sound blocks design (hierarchy_right setting.signature taken.0 design taken.2) terms)
 
   action_determined : (setting : SettingValue) (action : Action) → IsSoundSetting setting → CanBindBlocks setting → Determined (ActionAnswer (Some files) setting action)
-  action_determined setting (Bits net terms cycles) sound blocks =
-      determined_after (CircuitIn (Some files) setting.signature net cycles) (λ circuit. BitsReply setting circuit terms) (file_circuit_determined setting net cycles)
-      (λ circuit of. bits_determined setting circuit terms sound (by_ending net of.1.0) cycles (of.0, of.1.2, of.2))
-  action_determined setting (Abstract net terms cycles) sound blocks =
-      determined_after (CircuitIn (Some files) setting.signature net cycles) (λ circuit. AbstractReply setting circuit terms) (file_circuit_determined setting net cycles)
-      (λ circuit of. abstract_determined setting circuit terms sound (by_ending net of.1.0) cycles (of.0, of.1.2, of.2))
-  action_determined setting (Check net file terms cycles) sound blocks =
-      determined_after (NetlistIn (Some files) setting.signature net) (λ netlist. CheckOver (Some files) setting net netlist file terms cycles) (file_netlist_determined setting net) (λ netlist taken.
-      determined_after (SpecificationIn (Some files) (labels_of setting.k setting.signature.words) setting.k setting.product file) (λ spec. CheckUnrolled setting net netlist spec terms cycles) (said_determined setting file) (λ spec said.
-      determined_after (UnrolledIn net netlist cycles) (λ circuit. CheckReply setting circuit spec terms) (unrolled_determined net netlist cycles) (λ circuit of.
-      check_determined setting circuit spec terms sound (by_ending net taken.0) cycles (netlist, taken.2, of))))
-  action_determined setting (Same net other terms cycles) sound blocks =
-      determined_after (NetlistIn (Some files) setting.signature net) (λ netlist. SameBeside (Some files) setting net netlist other terms cycles) (file_netlist_determined setting net) (λ netlist taken.
-      determined_after (NetlistIn (Some files) setting.signature other) (λ second. SameUnrolled setting net netlist other second terms cycles) (file_netlist_determined setting other) (λ second taken'.
-      determined_after (UnrolledIn net netlist cycles) (λ circuit. SameSecond setting circuit other second terms cycles) (unrolled_determined net netlist cycles) (λ circuit of.
-      determined_after (UnrolledIn other second cycles) (λ more. SameReply setting circuit more terms) (unrolled_determined other second cycles) (λ more of'.
-      same_determined setting circuit more terms sound (by_ending net taken.0) cycles (netlist, taken.2, of) (by_ending other taken'.0) cycles (second, taken'.2, of')))))
+  action_determined setting (Bits net terms cycles simple) sound blocks =
+      determined_after (SimplerIn (Some files) setting.signature net cycles simple) (λ circuit. BitsReply setting circuit terms) (file_simpler_determined setting sound net cycles simple)
+      (λ circuit of. bits_determined setting circuit terms sound (by_ending net of.1.1.0) cycles simple (of.0, (of.1.0, of.1.1.2, of.1.2), of.2))
+  action_determined setting (Abstract net terms cycles simple) sound blocks =
+      determined_after (SimplerIn (Some files) setting.signature net cycles simple) (λ circuit. AbstractReply setting circuit terms) (file_simpler_determined setting sound net cycles simple)
+      (λ circuit of. abstract_determined setting circuit terms sound (by_ending net of.1.1.0) cycles simple (of.0, (of.1.0, of.1.1.2, of.1.2), of.2))
+  action_determined setting (Check net file terms cycles simple) sound blocks =
+      determined_after (NetlistIn (Some files) setting.signature net) (λ netlist. CheckOver (Some files) setting net netlist file terms cycles simple) (file_netlist_determined setting net) (λ netlist taken.
+      determined_after (SpecificationIn (Some files) (labels_of setting.k setting.signature.words) setting.k setting.product file) (λ spec. CheckUnrolled setting net netlist spec terms cycles simple) (said_determined setting file) (λ spec said.
+      determined_after (SimplerUnrolledIn net netlist cycles simple) (λ circuit. CheckReply setting circuit spec terms) (unrolled_with_determined setting sound net netlist (by_ending net taken.0) taken.2 cycles simple) (λ circuit of.
+      check_determined setting circuit spec terms sound (by_ending net taken.0) cycles simple (of.0, (netlist, taken.2, of.1), of.2))))
+  action_determined setting (Same net other terms cycles simple) sound blocks =
+      determined_after (NetlistIn (Some files) setting.signature net) (λ netlist. SameBeside (Some files) setting net netlist other terms cycles simple) (file_netlist_determined setting net) (λ netlist taken.
+      determined_after (NetlistIn (Some files) setting.signature other) (λ second. SameUnrolled setting net netlist other second terms cycles simple) (file_netlist_determined setting other) (λ second taken'.
+      determined_after (SimplerUnrolledIn net netlist cycles simple) (λ circuit. SameSecond setting circuit other second terms cycles simple) (unrolled_with_determined setting sound net netlist (by_ending net taken.0) taken.2 cycles simple) (λ circuit of.
+      determined_after (SimplerUnrolledIn other second cycles simple) (λ more. SameReply setting circuit more terms) (unrolled_with_determined setting sound other second (by_ending other taken'.0) taken'.2 cycles simple) (λ more of'.
+      same_determined setting circuit more terms sound (by_ending net taken.0) cycles simple (of.0, (netlist, taken.2, of.1), of.2) (by_ending other taken'.0) cycles simple (of'.0, (second, taken'.2, of'.1), of'.2)))))
   action_determined setting (Eval net values cycles) sound blocks =
       let count = length (labels_of setting.k setting.signature.words).words in
       determined_after (NetlistIn (Some files) setting.signature net) (λ netlist. EvalOver setting net netlist values cycles) (file_netlist_determined setting net) (λ netlist taken.

@@ -1,5 +1,5 @@
 -- What the answers of `bits` say, out of what comes of their steps.
-use Rattle.std.proofs.Common.{◌≡◌, ◌∙◌, ap, refl, sym, subst, ℕ, ◌+◌, ◌*◌, ◌≤◌, List, length, Some, Ok, ◌↔◌, arith}
+use Rattle.std.proofs.Common.{◌≡◌, ◌∙◌, ap, refl, sym, subst, ℕ, Bool, ◌+◌, ◌*◌, ◌≤◌, List, length, Some, Ok, ◌↔◌, arith}
 use Rattle.lists.specs.laws.HasLaws.{All_has}
 use Rattle.job_io.specs.Shelf.{Files}
 use Rattle.net_words.specs.Binding.{BoundNet}
@@ -36,9 +36,9 @@ use Rattle.answer_polynomials.specs.Bits.{BitsReply}
 use Rattle.answer_polynomials.proofs.AlikeLemmas.{alike}
 use Rattle.answer_core.proofs.EqualLabelLemmas.{few_bits}
 use Rattle.answer_polynomials.proofs.EqualLemmas.{count, in_bits, labels, one_written, roles, sound, well}
-use Rattle.gf_abs.proofs.HeadlineLemmas.{IsUnrolled, held_job, one_held, one_setting, unrolled}
+use Rattle.gf_abs.proofs.HeadlineLemmas.{IsUnrolled, held_job, one_held, one_setting, unrolled_with}
 use Rattle.answer_core.proofs.JobLemmas.{long}
-use Rattle.answer_core.proofs.TakenLemmas.{bases_long, circuit_bits, one_cycle}
+use Rattle.answer_core.proofs.SimplerLemmas.{simpler_bits, simpler_long, simpler_one_cycle}
 use Rattle.answer_core.proofs.WordNamesLemmas.{bits_in_first}
 use Rattle.stage_model.proofs.SharedLemmas.{named_terms}
 
@@ -49,9 +49,9 @@ module _ (setting : SettingValue) (circuit : BoundNet) (taken : IsTaken setting 
   bits_counted : length (word_nets (taken_circuit setting circuit).words) ≡ bit_count (word_labels setting.k setting.signature.words)
   bits_counted =
       let is = sound setting circuit taken in
-      let bound = (one_cycle setting circuit is taken.netlist taken.cycles taken.is_circuit).1 in
-      let bits = circuit_bits setting circuit is taken.netlist taken.cycles taken.is_circuit in
-      ap length (word_nets_of circuit.binding.words setting.bases (bases_long setting circuit is taken.netlist taken.cycles taken.is_circuit))
+      let bound = (simpler_one_cycle setting circuit is taken.netlist taken.cycles taken.simple taken.is_circuit).1 in
+      let bits = simpler_bits setting circuit is taken.netlist taken.cycles taken.simple taken.is_circuit in
+      ap length (word_nets_of circuit.binding.words setting.bases (simpler_long setting circuit is taken.netlist taken.cycles taken.simple taken.is_circuit))
       ∙ counted setting.k circuit.binding.words setting.signature.words (λ word has. All_has (λ u. length u.nets ≡ circuit.binding.k) circuit.binding.words word bound.flat.named has ∙ bits) (roles setting circuit taken)
 
   written : (ts : Terms) → IsInInputBits (taken_circuit setting circuit) ts → IsWritten (labels_of setting.k setting.signature.words) setting.k ts
@@ -185,9 +185,9 @@ record HeldPrinted (files : Files) (signature net : Word) (cycles : ℕ) (reply 
   held : AreHeld files signature net cycles setting job
   printed : Printed setting job reply
 
-job_prints : (files : Files) (signature net : Word) (bound cycles : ℕ) (reply : Reply) → JobAnswer (Some files) (Over signature (Bits net bound cycles)) (Ok reply) → HeldPrinted files signature net cycles reply
-job_prints files signature net bound cycles reply (signed, (text, read, is), (setting, are, (circuit, (netlist, (bytes, read', taken), of), came))) =
-    let behind = unrolled text (by_ending net bytes) cycles setting netlist circuit (signed, is, are) taken of in
+job_prints : (files : Files) (signature net : Word) (bound cycles : ℕ) (simple : Bool) (reply : Reply) → JobAnswer (Some files) (Over signature (Bits net bound cycles simple)) (Ok reply) → HeldPrinted files signature net cycles reply
+job_prints files signature net bound cycles simple reply (signed, (text, read, is), (setting, are, (circuit, (whole, (netlist, (bytes, read', taken), of), made), came))) =
+    let behind = unrolled_with text (by_ending net bytes) cycles setting netlist simple circuit (signed, is, are) taken whole of made in
     record {
       setting = setting;
       job = job_of setting netlist cycles;
@@ -200,7 +200,7 @@ module _ (files : Files) (words : List Word) (signature net : Word) (cycles : �
   held_printed is =
       let P : Job → Type 0 = λ job. JobAnswer (Some files) job (Ok reply) in
       let answer = is.answer in
-      job_prints files signature net is.bound cycles reply (subst P (one_job words answer.0 (Over signature (Bits net is.bound cycles)) answer.1 is.spelled) answer.2)
+      job_prints files signature net is.bound cycles is.simple reply (subst P (one_job words answer.0 (Over signature (Bits net is.bound cycles is.simple)) answer.1 is.spelled) answer.2)
 
   pub bits_print : AnswersBits files words signature net cycles reply → PrintsHeldInBits files signature net cycles reply
   bits_print is = let found = held_printed is in record { setting = found.setting; job = found.job; held = found.held; printed = found.printed.is }
@@ -226,3 +226,12 @@ bits_equal files files' words words' signature signature' net net' cycles cycles
     let p = printed_of files words signature net cycles reply setting job is held in
     let q = printed_of files' words' signature' net' cycles' reply' setting other is' held' in
     equal_lines setting p.circuit q.circuit job other p.behind q.behind reply reply' p.is q.is
+
+-- runs over the same files have one reply, whatever the bounds, and with `--simplify` or without it
+pub one_in_bits_of : (files : Files) (words words' : List Word) (signature net : Word) (cycles : ℕ) (reply reply' : Reply) → AnswersBits files words signature net cycles reply → AnswersBits files words' signature net cycles reply' → reply ≡ reply'
+one_in_bits_of files words words' signature net cycles reply reply' is is' =
+    let first = bits_print files words signature net cycles reply is in
+    let second = bits_print files words' signature net cycles reply' is' in
+    let text : reply.text ≡ reply'.text = (bits_equal files files words words' signature signature net net cycles cycles reply reply' first.setting first.job first.job is is' first.held first.held).1 (λ xs e. ((λ out. out), (λ out. out))) in
+    let status : reply.status ≡ reply'.status = first.printed.status ∙ sym second.printed.status in
+    (λ i. record { status = status i; text = text i })

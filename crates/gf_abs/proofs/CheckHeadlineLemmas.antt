@@ -1,12 +1,13 @@
 -- What the answers of `check` say, out of what comes of its steps.
-use Rattle.std.proofs.Common.{◌≡◌, ◌⊎◌, ◌∙◌, ap, sym, refl, subst, inl, inr, ℕ, List, [], ◌++◌, Option, None, Some, Result, Ok, Err, ◌↔◌, codes, arith}
+use Rattle.std.proofs.Common.{◌≡◌, ◌⊎◌, ◌∙◌, ap, sym, refl, subst, inl, inr, ℕ, Bool, List, [], ◌++◌, Option, None, Some, Result, Ok, Err, ◌↔◌, codes, arith}
 use Rattle.job_io.specs.Shelf.{Files}
 use Rattle.net_words.specs.Binding.{BoundNet}
 use Rattle.poly_mixed.specs.Polynomial.{Terms}
 use Rattle.circuit_model.specs.Circuit.{Circuit}
 use Rattle.circuit_model.specs.Differing.{Difference, AreSame}
 use Rattle.circuit_model.specs.Out.{IsOut}
-use Rattle.circuit_model.proofs.OutLemmas.{some_out}
+use Rattle.circuit_model.proofs.DifferingLemmas.{one_comparison}
+use Rattle.circuit_model.proofs.OutLemmas.{one_out, some_out}
 use Rattle.spec_expand.specs.SpecValue.{spec_at}
 use Rattle.spec_expand.specs.Specification.{SpecTerms}
 use Rattle.job_words.specs.Operands.{Word}
@@ -28,9 +29,10 @@ use Rattle.answer_core.specs.Abstraction.{taken_circuit}
 use Rattle.answer_polynomials.specs.Abstract.{AbstractReply}
 use Rattle.answer_polynomials.specs.Check.{CheckReply, check_reply}
 use Rattle.gf_abs.proofs.AnswerDetermined.{said_determined}
+use Rattle.answer_polynomials.proofs.EqualFunctionLemmas.{equal_bytes}
 use Rattle.answer_polynomials.proofs.EqualLemmas.{well, printed}
-use Rattle.gf_abs.proofs.HeadlineLemmas.{IsUnrolled, held_job, one_held, one_setting, unrolled}
-use Rattle.answer_core.proofs.JobLemmas.{computes, differing, output_to, specified, words_to}
+use Rattle.gf_abs.proofs.HeadlineLemmas.{IsUnrolled, held_job, one_held, one_setting, unrolled_with}
+use Rattle.answer_core.proofs.JobLemmas.{comparison, computes, differing, one_through, output_to, specified, words_to}
 
 -- what was judged for a reply
 pub record Judged (setting : SettingValue) (job : Circuit) (spec : SpecTerms) (reply : Reply) : Type 0 where
@@ -62,9 +64,9 @@ replied_by setting circuit job spec bound reply behind (line, (ts, of_words, is_
   replied = exactly ∙ ap (λ l. check_reply (labels_of setting.k setting.signature.words) l found) is_line;
 }
 
-job_judges : (files : Files) (signature net specification : Word) (bound cycles : ℕ) (reply : Reply) → JobAnswer (Some files) (Over signature (Check net specification bound cycles)) (Ok reply) → HeldJudged files signature net specification cycles reply
-job_judges files signature net specification bound cycles reply (signed, (text, read, is), (setting, are, (netlist, (bytes, read', taken), (spec, said, (circuit, of, came))))) =
-    let behind = unrolled text (by_ending net bytes) cycles setting netlist circuit (signed, is, are) taken of in
+job_judges : (files : Files) (signature net specification : Word) (bound cycles : ℕ) (simple : Bool) (reply : Reply) → JobAnswer (Some files) (Over signature (Check net specification bound cycles simple)) (Ok reply) → HeldJudged files signature net specification cycles reply
+job_judges files signature net specification bound cycles simple reply (signed, (text, read, is), (setting, are, (netlist, (bytes, read', taken), (spec, said, (circuit, (whole, of, made), came))))) =
+    let behind = unrolled_with text (by_ending net bytes) cycles setting netlist simple circuit (signed, is, are) taken whole of made in
     record {
       setting = setting;
       job = job_of setting netlist cycles;
@@ -86,7 +88,7 @@ module _ (files : Files) (words : List Word) (signature net specification : Word
   held_judged =
       let P : Job → Type 0 = λ job. JobAnswer (Some files) job (Ok reply) in
       let answer = answers.answer in
-      job_judges files signature net specification answers.bound cycles reply (subst P (one_job words answer.0 (Over signature (Check net specification answers.bound cycles)) answer.1 answers.spelled) answer.2)
+      job_judges files signature net specification answers.bound cycles answers.simple reply (subst P (one_job words answer.0 (Over signature (Check net specification answers.bound cycles answers.simple)) answer.1 answers.spelled) answer.2)
 
   -- what was judged of these
   judged_for : (setting : SettingValue) (job : Circuit) (spec : SpecTerms) → AreHeldWith files signature net specification cycles setting job spec → Judged setting job spec reply
@@ -219,3 +221,26 @@ module _ (files : Files) (words : List Word) (signature net specification : Word
     held = of_files.held;
     printed = rejects_here files words signature net specification cycles reply of_files.setting of_files.job of_files.spec answers of_files.held one;
   }
+
+-- ---- one reply
+
+-- two judgements of the same job and specification are one
+one_judged : (setting : SettingValue) (job : Circuit) (spec : SpecTerms) (reply reply' : Reply) → Judged setting job spec reply → Judged setting job spec reply' → reply ≡ reply'
+one_judged setting job spec reply reply' a b =
+    let c : Circuit = taken_circuit setting a.circuit in
+    let c' : Circuit = taken_circuit setting b.circuit in
+    let one = one_through c' c job b.behind.one a.behind.one in
+    let there : IsJudged setting a.circuit spec b.found = comparison setting c' c one (IsOut c') (IsSpecified setting c' spec) (IsOut c) (IsSpecified setting c spec) one.output (specified setting c' c one spec) b.found b.is in
+    let fine = well setting a.circuit a.behind.taken in
+    let same : a.found ≡ b.found = one_comparison c (IsOut c) (IsSpecified setting c spec) fine (λ xs x y. one_out c xs x y fine) (λ xs x y first second. sym first.value ∙ second.value) a.found b.found a.is there in
+    let line : polynomial_line setting a.polynomial ≡ polynomial_line setting b.polynomial =
+    (equal_bytes setting a.circuit b.circuit (prints setting a.polynomial) (prints setting b.polynomial) a.behind.taken b.behind.taken
+    (printed setting a.circuit a.behind.taken a.bound (prints setting a.polynomial) a.reduced) (printed setting b.circuit b.behind.taken b.bound (prints setting b.polynomial) b.reduced)).1
+    (λ xs e. ((λ out. (one.output xs e).1 out), (λ out. (one.output xs e).0 out))) in
+    a.replied ∙ ((λ i. check_reply (labels_of setting.k setting.signature.words) (line i) (same i)) ∙ sym b.replied)
+
+-- runs over the same files have one reply, whatever the bounds, and with `--simplify` or without it
+pub one_check : (files : Files) (words words' : List Word) (signature net specification : Word) (cycles : ℕ) (reply reply' : Reply) → AnswersCheck files words signature net specification cycles reply → AnswersCheck files words' signature net specification cycles reply' → reply ≡ reply'
+one_check files words words' signature net specification cycles reply reply' is is' =
+    let first = held_judged files words signature net specification cycles reply is in
+    one_judged first.setting first.job first.spec reply reply' first.judged (judged_for files words' signature net specification cycles reply' is' first.setting first.job first.spec first.held)

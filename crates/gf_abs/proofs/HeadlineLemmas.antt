@@ -1,5 +1,5 @@
 -- What the program's answers say, out of what comes of their steps.
-use Rattle.std.proofs.Common.{◌≡◌, ◌∙◌, ap, refl, sym, subst, ℕ, List, Some, Ok, ◌↔◌}
+use Rattle.std.proofs.Common.{◌≡◌, ◌∙◌, ap, refl, sym, subst, ℕ, Bool, false, List, Some, Ok, ◌↔◌}
 use Rattle.lists.specs.laws.OptionLaws.{same_ok}
 use Rattle.job_io.specs.Shelf.{Files}
 use Rattle.net_words.specs.Binding.{BoundNet}
@@ -21,25 +21,31 @@ use Rattle.gf_abs.specs.Answer.{JobAnswer}
 use Rattle.gf_abs.specs.Headline.{AnswersAbstract}
 use Rattle.answer_core.specs.Printed.{IsTaken, AreHeld, IsInItsWords, HasOutput, IsPrinted, AreOneFunction, PrintsHeld}
 use Rattle.answer_core.specs.Reply.{Reply, polynomial_line}
+use Rattle.answer_core.specs.Simpler.{IsSimpler}
 use Rattle.answer_core.specs.Abstraction.{taken_circuit}
 use Rattle.gf_abs.proofs.AnswerDetermined.{read_determined}
 use Rattle.answer_polynomials.proofs.EqualFunctionLemmas.{equal_bytes}
 use Rattle.answer_polynomials.proofs.EqualLemmas.{only_text, printed}
-use Rattle.answer_core.proofs.JobLemmas.{IsOneWith, both_one, output_from, output_to, printed_to, with_job, words_from}
+use Rattle.answer_core.proofs.JobLemmas.{IsOneWith, both_one, output_from, output_to, printed_to, words_from}
+use Rattle.answer_core.proofs.SimplerLemmas.{simpler_with_job}
 
 -- ---- the circuit behind a job
 
--- the circuit of all cycles of taken texts, which is one with the job
+-- the circuit of all cycles of taken texts, or a simpler one, which is one with the job
 pub record IsUnrolled (setting : SettingValue) (circuit : BoundNet) (job : Circuit) : Type 0 where
   pub taken : IsTaken setting circuit
   pub one : IsOneWith (taken_circuit setting circuit) job
 
 -- of texts that were read and taken
-pub unrolled : (signature : List ℕ) (netlist : NetlistText) (cycles : ℕ) (setting : SettingValue) (bound circuit : BoundNet) → SettingOf signature (Ok setting) → BoundNetOf setting.signature netlist (Ok bound) → CircuitOf bound cycles (Ok circuit) → IsUnrolled setting circuit (job_of setting bound cycles)
-unrolled signature netlist cycles setting bound circuit is_setting is_bound is_circuit = record {
-  taken = record { signature = signature; is_setting = is_setting; netlist = netlist; cycles = cycles; is_circuit = (bound, is_bound, is_circuit) };
-  one = with_job setting bound circuit cycles (setting_sound signature setting is_setting) netlist is_bound is_circuit;
+pub unrolled_with : (signature : List ℕ) (netlist : NetlistText) (cycles : ℕ) (setting : SettingValue) (bound : BoundNet) (simple : Bool) (circuit : BoundNet) → SettingOf signature (Ok setting) → BoundNetOf setting.signature netlist (Ok bound) → (whole : BoundNet) → CircuitOf bound cycles (Ok whole) → IsSimpler simple whole circuit
+    → IsUnrolled setting circuit (job_of setting bound cycles)
+unrolled_with signature netlist cycles setting bound simple circuit is_setting is_bound whole is_circuit made = record {
+  taken = record { signature = signature; is_setting = is_setting; netlist = netlist; cycles = cycles; simple = simple; is_circuit = (whole, (bound, is_bound, is_circuit), made) };
+  one = simpler_with_job setting bound whole circuit cycles simple (setting_sound signature setting is_setting) netlist is_bound is_circuit made;
 }
+
+pub unrolled : (signature : List ℕ) (netlist : NetlistText) (cycles : ℕ) (setting : SettingValue) (bound circuit : BoundNet) → SettingOf signature (Ok setting) → BoundNetOf setting.signature netlist (Ok bound) → CircuitOf bound cycles (Ok circuit) → IsUnrolled setting circuit (job_of setting bound cycles)
+unrolled signature netlist cycles setting bound circuit is_setting is_bound is_circuit = unrolled_with signature netlist cycles setting bound false circuit is_setting is_bound circuit is_circuit refl
 
 -- of held files
 pub held_job : (files : Files) (signature net : Word) (cycles : ℕ) (setting : SettingValue) (bound : BoundNet) (bytes text : List ℕ) → Read (Some files) signature (Ok bytes) → Read (Some files) net (Ok text) → SettingOf bytes (Ok setting) → BoundNetOf setting.signature (by_ending net text) (Ok bound) → AreHeld files signature net cycles setting (job_of setting bound cycles)
@@ -82,9 +88,9 @@ record HeldPrinted (files : Files) (signature net : Word) (cycles : ℕ) (reply 
   pub held : AreHeld files signature net cycles setting job
   pub printed : Printed setting job reply
 
-job_prints : (files : Files) (signature net : Word) (bound cycles : ℕ) (reply : Reply) → JobAnswer (Some files) (Over signature (Abstract net bound cycles)) (Ok reply) → HeldPrinted files signature net cycles reply
-job_prints files signature net bound cycles reply (signed, (text, read, is), (setting, are, (circuit, (netlist, (bytes, read', taken), of), came))) =
-    let behind = unrolled text (by_ending net bytes) cycles setting netlist circuit (signed, is, are) taken of in
+job_prints : (files : Files) (signature net : Word) (bound cycles : ℕ) (simple : Bool) (reply : Reply) → JobAnswer (Some files) (Over signature (Abstract net bound cycles simple)) (Ok reply) → HeldPrinted files signature net cycles reply
+job_prints files signature net bound cycles simple reply (signed, (text, read, is), (setting, are, (circuit, (whole, (netlist, (bytes, read', taken), of), made), came))) =
+    let behind = unrolled_with text (by_ending net bytes) cycles setting netlist simple circuit (signed, is, are) taken whole of made in
     record {
       setting = setting;
       job = job_of setting netlist cycles;
@@ -99,7 +105,7 @@ module _ (files : Files) (words : List Word) (signature net : Word) (cycles : �
   held_printed is =
       let P : Job → Type 0 = λ job. JobAnswer (Some files) job (Ok reply) in
       let answer = is.answer in
-      job_prints files signature net is.bound cycles reply (subst P (one_job words answer.0 (Over signature (Abstract net is.bound cycles)) answer.1 is.spelled) answer.2)
+      job_prints files signature net is.bound cycles is.simple reply (subst P (one_job words answer.0 (Over signature (Abstract net is.bound cycles is.simple)) answer.1 is.spelled) answer.2)
 
   pub abstract_prints : AnswersAbstract files words signature net cycles reply → PrintsHeld files signature net cycles reply
   abstract_prints is =
@@ -139,3 +145,12 @@ bytes_equal files files' words words' signature signature' net net' cycles cycle
       (λ same. both.0 (text.0 same)),
       λ equal. text.1 (both.1 equal),
     )
+
+-- runs over the same files have one reply, whatever the bounds, and with `--simplify` or without it
+pub one_in_words : (files : Files) (words words' : List Word) (signature net : Word) (cycles : ℕ) (reply reply' : Reply) → AnswersAbstract files words signature net cycles reply → AnswersAbstract files words' signature net cycles reply' → reply ≡ reply'
+one_in_words files words words' signature net cycles reply reply' is is' =
+    let first = abstract_prints files words signature net cycles reply is in
+    let second = abstract_prints files words' signature net cycles reply' is' in
+    let text : reply.text ≡ reply'.text = (bytes_equal files files words words' signature signature net net cycles cycles reply reply' first.setting first.job first.job is is' first.held first.held).1 (λ xs e. ((λ out. out), (λ out. out))) in
+    let status : reply.status ≡ reply'.status = first.printed.status ∙ sym second.printed.status in
+    (λ i. record { status = status i; text = text i })

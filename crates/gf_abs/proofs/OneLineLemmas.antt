@@ -1,5 +1,5 @@
 -- Each fault that may come is one line.
-use Rattle.std.proofs.Common.{◌≡◌, inl, inr, refl, subst, sym, ℕ, List, [], length, Option, Some, Ok, Err, arith}
+use Rattle.std.proofs.Common.{◌≡◌, inl, inr, refl, subst, sym, ℕ, Bool, List, [], length, Option, Some, Ok, Err, arith}
 use Rattle.std.specs.Prelude.{codes, decimal}
 use Rattle.outcome.specs.Outcome.{Within}
 use Rattle.job_io.specs.Shelf.{Files}
@@ -34,6 +34,7 @@ use Rattle.make_trial.proofs.SaidLemmas.{trial_said}
 use Rattle.gf_abs.specs.Answer.{ActionAnswer, Answer, JobAnswer, SignedAnswer}
 use Rattle.answer_polynomials.specs.Values.{ValuesOf}
 use Rattle.answer_core.specs.Staged.{IsStageOver, either_net_text, either_text}
+use Rattle.answer_core.specs.Simpler.{SimplerIn, SimplerUnrolledIn}
 use Rattle.answer_core.specs.Abstraction.{abstract_stages, taken_circuit, bits_stages}
 use Rattle.answer_polynomials.specs.Abstract.{AbstractReply}
 use Rattle.answer_polynomials.specs.Bits.{BitsReply}
@@ -148,6 +149,14 @@ module _ (setting : SettingValue) (names : HaveNames setting.signature.words) wh
   circuit_kept held net cycles fault is (inl wrong) = netlist_file_keeps held setting.signature net fault names is wrong
   circuit_kept held net cycles fault is (inr (netlist, taken, wrong)) = cycles_keep net netlist cycles fault is wrong
 
+  simpler_kept : (held : Option Files) (net : Word) (cycles : ℕ) (simple : Bool) (fault : Fault) → HasNoLineFeed net → SimplerIn held setting.signature net cycles simple (Err fault) → KeepsToItsLine fault
+  simpler_kept held net cycles simple fault is (inl wrong) = circuit_kept held net cycles fault is wrong
+  simpler_kept held net cycles simple fault is (inr (circuit, of, never)) = absurd never
+
+  cycles_with_kept : (net : Word) (netlist : BoundNet) (cycles : ℕ) (simple : Bool) (fault : Fault) → HasNoLineFeed net → SimplerUnrolledIn net netlist cycles simple (Err fault) → KeepsToItsLine fault
+  cycles_with_kept net netlist cycles simple fault is (inl wrong) = cycles_keep net netlist cycles fault is wrong
+  cycles_with_kept net netlist cycles simple fault is (inr (circuit, of, never)) = absurd never
+
   certified_kept : (held : Option Files) (net file : Word) (cycles : ℕ) (fault : Fault) → HasNoLineFeed net → HasNoLineFeed file → CertifiedIn held setting.signature net file cycles (Err fault) → KeepsToItsLine fault
   certified_kept held net file cycles fault is also (inl wrong) = netlist_file_keeps held setting.signature net fault names is wrong
   certified_kept held net file cycles fault is also (inr (netlist, taken, inl wrong)) = file_keeps held file fault also wrong
@@ -161,19 +170,19 @@ module _ (setting : SettingValue) (names : HaveNames setting.signature.words) wh
   module _ (block_names : HaveBlockNames setting.signature) where
     -- of a command that these words spell
     action_kept : (held : Option Files) (words : List Word) (signature : Word) (action : Action) (fault : Fault) → IsSpelled words (Over signature action) → ActionAnswer held setting action (Err fault) → KeepsToItsLine fault
-    action_kept held words signature (Bits net terms cycles) fault is (inl wrong) = circuit_kept held net cycles fault (operand_kept net is.follow.file_is) wrong
-    action_kept held words signature (Bits net terms cycles) fault is (inr (circuit, taken, wrong)) = bits_kept circuit terms fault wrong
-    action_kept held words signature (Abstract net terms cycles) fault is (inl wrong) = circuit_kept held net cycles fault (operand_kept net is.follow.file_is) wrong
-    action_kept held words signature (Abstract net terms cycles) fault is (inr (circuit, taken, wrong)) = abstract_kept circuit terms fault wrong
-    action_kept held words signature (Check net specification terms cycles) fault is (inl wrong) = netlist_file_keeps held setting.signature net fault names (operand_kept net is.follow.file_is) wrong
-    action_kept held words signature (Check net specification terms cycles) fault is (inr (netlist, taken, inl wrong)) = specification_keeps held (labels_of setting.k setting.signature.words) setting.k setting.product specification fault (operand_kept specification is.follow.other_is) wrong
-    action_kept held words signature (Check net specification terms cycles) fault is (inr (netlist, taken, inr (spec, said, inl wrong))) = cycles_keep net netlist cycles fault (operand_kept net is.follow.file_is) wrong
-    action_kept held words signature (Check net specification terms cycles) fault is (inr (netlist, taken, inr (spec, said, inr (circuit, of, wrong)))) = check_kept circuit spec terms fault wrong
-    action_kept held words signature (Same net other terms cycles) fault is (inl wrong) = netlist_file_keeps held setting.signature net fault names (operand_kept net is.follow.file_is) wrong
-    action_kept held words signature (Same net other terms cycles) fault is (inr (netlist, taken, inl wrong)) = netlist_file_keeps held setting.signature other fault names (operand_kept other is.follow.other_is) wrong
-    action_kept held words signature (Same net other terms cycles) fault is (inr (netlist, taken, inr (second, more, inl wrong))) = cycles_keep net netlist cycles fault (operand_kept net is.follow.file_is) wrong
-    action_kept held words signature (Same net other terms cycles) fault is (inr (netlist, taken, inr (second, more, inr (circuit, of, inl wrong)))) = cycles_keep other second cycles fault (operand_kept other is.follow.other_is) wrong
-    action_kept held words signature (Same net other terms cycles) fault is (inr (netlist, taken, inr (second, more, inr (circuit, of, inr (beside, of', wrong))))) = same_kept circuit beside terms fault wrong
+    action_kept held words signature (Bits net terms cycles simple) fault is (inl wrong) = simpler_kept held net cycles simple fault (operand_kept net is.follow.file_is) wrong
+    action_kept held words signature (Bits net terms cycles simple) fault is (inr (circuit, taken, wrong)) = bits_kept circuit terms fault wrong
+    action_kept held words signature (Abstract net terms cycles simple) fault is (inl wrong) = simpler_kept held net cycles simple fault (operand_kept net is.follow.file_is) wrong
+    action_kept held words signature (Abstract net terms cycles simple) fault is (inr (circuit, taken, wrong)) = abstract_kept circuit terms fault wrong
+    action_kept held words signature (Check net specification terms cycles simple) fault is (inl wrong) = netlist_file_keeps held setting.signature net fault names (operand_kept net is.follow.file_is) wrong
+    action_kept held words signature (Check net specification terms cycles simple) fault is (inr (netlist, taken, inl wrong)) = specification_keeps held (labels_of setting.k setting.signature.words) setting.k setting.product specification fault (operand_kept specification is.follow.other_is) wrong
+    action_kept held words signature (Check net specification terms cycles simple) fault is (inr (netlist, taken, inr (spec, said, inl wrong))) = cycles_with_kept net netlist cycles simple fault (operand_kept net is.follow.file_is) wrong
+    action_kept held words signature (Check net specification terms cycles simple) fault is (inr (netlist, taken, inr (spec, said, inr (circuit, of, wrong)))) = check_kept circuit spec terms fault wrong
+    action_kept held words signature (Same net other terms cycles simple) fault is (inl wrong) = netlist_file_keeps held setting.signature net fault names (operand_kept net is.follow.file_is) wrong
+    action_kept held words signature (Same net other terms cycles simple) fault is (inr (netlist, taken, inl wrong)) = netlist_file_keeps held setting.signature other fault names (operand_kept other is.follow.other_is) wrong
+    action_kept held words signature (Same net other terms cycles simple) fault is (inr (netlist, taken, inr (second, more, inl wrong))) = cycles_with_kept net netlist cycles simple fault (operand_kept net is.follow.file_is) wrong
+    action_kept held words signature (Same net other terms cycles simple) fault is (inr (netlist, taken, inr (second, more, inr (circuit, of, inl wrong)))) = cycles_with_kept other second cycles simple fault (operand_kept other is.follow.other_is) wrong
+    action_kept held words signature (Same net other terms cycles simple) fault is (inr (netlist, taken, inr (second, more, inr (circuit, of, inr (beside, of', wrong))))) = same_kept circuit beside terms fault wrong
     action_kept held words signature (Eval net values cycles) fault is (inl wrong) = netlist_file_keeps held setting.signature net fault names (operand_kept net is.follow.file_is) wrong
     action_kept held words signature (Eval net values cycles) fault is (inr (netlist, taken, inl wrong)) = values_kept setting.k (length (labels_of setting.k setting.signature.words).words) values fault wrong
     action_kept held words signature (Eval net values cycles) fault is (inr (netlist, taken, inr (xs, are, inl wrong))) = cycles_keep net netlist cycles fault (operand_kept net is.follow.file_is) wrong

@@ -263,10 +263,10 @@ module _ (held : Option Files) (setting : SettingValue) where
   action_two (Upgrade net file cycles) fault none (inr (certified, taken, inr (t, of, never))) = absurd never
   action_two (Make kind) fault none (inl wrong) = ap fault_status wrong.0
   action_two (Make kind) fault none (inr (net, made, never)) = absurd never
-  action_two (Bits net terms cycles) fault none wrong = absurd none
-  action_two (Abstract net terms cycles) fault none wrong = absurd none
-  action_two (Check net file terms cycles) fault none wrong = absurd none
-  action_two (Same net other terms cycles) fault none wrong = absurd none
+  action_two (Bits net terms cycles simple) fault none wrong = absurd none
+  action_two (Abstract net terms cycles simple) fault none wrong = absurd none
+  action_two (Check net file terms cycles simple) fault none wrong = absurd none
+  action_two (Same net other terms cycles simple) fault none wrong = absurd none
   action_two (Certify net terms cycles) fault none wrong = absurd none
   action_two (Verify net file terms cycles) fault none wrong = absurd none
   action_two (Compose net terms) fault none wrong = absurd none

@@ -1,5 +1,5 @@
 -- When a command is refused, and when it stops at a stage, out of the steps of its answer.
-use Rattle.std.proofs.Common.{◌≡◌, ◌⊎◌, ap, refl, subst, sym, inl, inr, ℕ, List, Option, Ok, Err, ◌↔◌, length, arith}
+use Rattle.std.proofs.Common.{◌≡◌, ◌⊎◌, ap, refl, subst, sym, inl, inr, ℕ, Bool, List, Option, Ok, Err, ◌↔◌, length, arith}
 use Rattle.outcome.specs.Outcome.{Outcome}
 use Rattle.job_io.specs.Shelf.{Files}
 use Rattle.net_words.specs.Binding.{BoundNet}
@@ -21,9 +21,10 @@ use Rattle.job_input.specs.SettingValue.{SettingValue}
 use Rattle.job_input.specs.SpecificationIn.{SpecificationIn}
 use Rattle.answer_core.specs.Abstraction.{IsInWords, taken_circuit}
 use Rattle.answer_core.specs.Reply.{polynomial_line}
+use Rattle.answer_core.specs.Simpler.{SimplerUnrolledIn}
 use Rattle.answer_polynomials.proofs.EqualLemmas.{well}
 use Rattle.gf_abs.specs.Answer.{ActionAnswer, Answer, JobAnswer}
-use Rattle.gf_abs.specs.Refusals.{BothGiven, CircuitGiven, IsAbstractOver, IsBitsOver, IsCertifyOver, IsCheckOver, IsRefusedInOrder, IsSameOver, Refuses, SettingIn, SpecifiedGiven, Stops}
+use Rattle.gf_abs.specs.Refusals.{BothGiven, CircuitGiven, IsAbstractOver, IsBitsOver, IsCertifyOver, IsCheckOver, IsRefusedInOrder, IsSameOver, Refuses, SettingIn, SimplerGiven, SpecifiedGiven, Stops}
 
 -- ---- statuses
 
@@ -55,6 +56,10 @@ module _ (held : Option Files) where
 
 pub unrolled_two : (net : Word) (netlist : BoundNet) (cycles : ℕ) (fault : Fault) → UnrolledIn net netlist cycles (Err fault) → fault_status fault ≡ 2
 unrolled_two net netlist cycles fault (found, is, same) = ap fault_status same
+
+pub simpler_two : (net : Word) (netlist : BoundNet) (cycles : ℕ) (simple : Bool) (fault : Fault) → SimplerUnrolledIn net netlist cycles simple (Err fault) → fault_status fault ≡ 2
+simpler_two net netlist cycles simple fault (inl wrong) = unrolled_two net netlist cycles fault wrong
+simpler_two net netlist cycles simple fault (inr (circuit, of, never)) = absurd never
 
 -- ---- the steps of an answer
 
@@ -131,24 +136,6 @@ module _ (held : Option Files) (net : Word) (cycles : ℕ) where
   circuit_low setting fault (inr (netlist, taken, wrong)) = unrolled_two net netlist cycles fault wrong
 
   module _ (bound : ℕ) (setting : SettingValue) (fault : Fault) where
-    bits_split : ActionAnswer held setting (Bits net bound cycles) (Err fault) → IsSplit (CircuitGiven held net cycles) (IsBitsOver bound) setting fault
-    bits_split (inl wrong) = inl wrong
-    bits_split (inr (circuit, of, inl stops)) = inr (circuit, of, stops)
-    bits_split (inr (circuit, of, inr (ts, is, never))) = absurd never
-
-    bits_joined : IsSplit (CircuitGiven held net cycles) (IsBitsOver bound) setting fault → ActionAnswer held setting (Bits net bound cycles) (Err fault)
-    bits_joined (inl wrong) = inl wrong
-    bits_joined (inr (circuit, of, stops)) = inr (circuit, of, inl stops)
-
-    abstract_split : ActionAnswer held setting (Abstract net bound cycles) (Err fault) → IsSplit (CircuitGiven held net cycles) (IsAbstractOver bound) setting fault
-    abstract_split (inl wrong) = inl wrong
-    abstract_split (inr (circuit, of, inl stops)) = inr (circuit, of, stops)
-    abstract_split (inr (circuit, of, inr (ts, is, never))) = absurd never
-
-    abstract_joined : IsSplit (CircuitGiven held net cycles) (IsAbstractOver bound) setting fault → ActionAnswer held setting (Abstract net bound cycles) (Err fault)
-    abstract_joined (inl wrong) = inl wrong
-    abstract_joined (inr (circuit, of, stops)) = inr (circuit, of, inl stops)
-
     certify_split : ActionAnswer held setting (Certify net bound cycles) (Err fault) → IsSplit (CircuitGiven held net cycles) (IsCertifyOver bound) setting fault
     certify_split (inl wrong) = inl wrong
     certify_split (inr (circuit, of, inl stops)) = inr (circuit, of, stops)
@@ -158,14 +145,39 @@ module _ (held : Option Files) (net : Word) (cycles : ℕ) where
     certify_joined (inl wrong) = inl wrong
     certify_joined (inr (circuit, of, stops)) = inr (circuit, of, inl stops)
 
-module _ (held : Option Files) (words : List Word) (signature net : Word) (bound cycles : ℕ) where
-  pub bits_in_order : IsSpelled words (Over signature (Bits net bound cycles)) → IsRefusedInOrder held words signature (CircuitGiven held net cycles) (IsBitsOver bound)
-  bits_in_order spelled =
-      in_order words held signature (Bits net bound cycles) spelled (CircuitGiven held net cycles) (IsBitsOver bound) (circuit_low held net cycles) (bits_split held net cycles bound) (λ setting fault is. bits_joined held net cycles bound setting fault)
+-- or a simpler one
+module _ (held : Option Files) (net : Word) (cycles : ℕ) where
+  simpler_low : (simple : Bool) (setting : SettingValue) (fault : Fault) → SimplerGiven held net cycles simple setting (Err fault) → fault_status fault ≡ 2
+  simpler_low simple setting fault (inl wrong) = circuit_low held net cycles setting fault wrong
+  simpler_low simple setting fault (inr (circuit, of, never)) = absurd never
 
-  pub abstract_in_order : IsSpelled words (Over signature (Abstract net bound cycles)) → IsRefusedInOrder held words signature (CircuitGiven held net cycles) (IsAbstractOver bound)
-  abstract_in_order spelled =
-      in_order words held signature (Abstract net bound cycles) spelled (CircuitGiven held net cycles) (IsAbstractOver bound) (circuit_low held net cycles) (abstract_split held net cycles bound) (λ setting fault is. abstract_joined held net cycles bound setting fault)
+  module _ (simple : Bool) (bound : ℕ) (setting : SettingValue) (fault : Fault) where
+    bits_split : ActionAnswer held setting (Bits net bound cycles simple) (Err fault) → IsSplit (SimplerGiven held net cycles simple) (IsBitsOver bound) setting fault
+    bits_split (inl wrong) = inl wrong
+    bits_split (inr (circuit, of, inl stops)) = inr (circuit, of, stops)
+    bits_split (inr (circuit, of, inr (ts, is, never))) = absurd never
+
+    bits_joined : IsSplit (SimplerGiven held net cycles simple) (IsBitsOver bound) setting fault → ActionAnswer held setting (Bits net bound cycles simple) (Err fault)
+    bits_joined (inl wrong) = inl wrong
+    bits_joined (inr (circuit, of, stops)) = inr (circuit, of, inl stops)
+
+    abstract_split : ActionAnswer held setting (Abstract net bound cycles simple) (Err fault) → IsSplit (SimplerGiven held net cycles simple) (IsAbstractOver bound) setting fault
+    abstract_split (inl wrong) = inl wrong
+    abstract_split (inr (circuit, of, inl stops)) = inr (circuit, of, stops)
+    abstract_split (inr (circuit, of, inr (ts, is, never))) = absurd never
+
+    abstract_joined : IsSplit (SimplerGiven held net cycles simple) (IsAbstractOver bound) setting fault → ActionAnswer held setting (Abstract net bound cycles simple) (Err fault)
+    abstract_joined (inl wrong) = inl wrong
+    abstract_joined (inr (circuit, of, stops)) = inr (circuit, of, inl stops)
+
+module _ (held : Option Files) (words : List Word) (signature net : Word) (bound cycles : ℕ) where
+  pub bits_in_order : (simple : Bool) → IsSpelled words (Over signature (Bits net bound cycles simple)) → IsRefusedInOrder held words signature (SimplerGiven held net cycles simple) (IsBitsOver bound)
+  bits_in_order simple spelled =
+      in_order words held signature (Bits net bound cycles simple) spelled (SimplerGiven held net cycles simple) (IsBitsOver bound) (simpler_low held net cycles simple) (bits_split held net cycles simple bound) (λ setting fault is. bits_joined held net cycles simple bound setting fault)
+
+  pub abstract_in_order : (simple : Bool) → IsSpelled words (Over signature (Abstract net bound cycles simple)) → IsRefusedInOrder held words signature (SimplerGiven held net cycles simple) (IsAbstractOver bound)
+  abstract_in_order simple spelled =
+      in_order words held signature (Abstract net bound cycles simple) spelled (SimplerGiven held net cycles simple) (IsAbstractOver bound) (simpler_low held net cycles simple) (abstract_split held net cycles simple bound) (λ setting fault is. abstract_joined held net cycles simple bound setting fault)
 
   pub certify_in_order : IsSpelled words (Over signature (Certify net bound cycles)) → IsRefusedInOrder held words signature (CircuitGiven held net cycles) (IsCertifyOver bound)
   certify_in_order spelled =
@@ -173,16 +185,16 @@ module _ (held : Option Files) (words : List Word) (signature net : Word) (bound
 
 -- ---- over two netlists
 
-module _ (held : Option Files) (net other : Word) (cycles : ℕ) where
-  both_low : (setting : SettingValue) (fault : Fault) → BothGiven held net other cycles setting (Err fault) → fault_status fault ≡ 2
+module _ (held : Option Files) (net other : Word) (cycles : ℕ) (simple : Bool) where
+  both_low : (setting : SettingValue) (fault : Fault) → BothGiven held net other cycles simple setting (Err fault) → fault_status fault ≡ 2
   both_low setting fault (inl wrong) = netlist_two held setting net fault wrong
   both_low setting fault (inr (netlist, taken, inl wrong)) = netlist_two held setting other fault wrong
-  both_low setting fault (inr (netlist, taken, inr (second, more, inl wrong))) = unrolled_two net netlist cycles fault wrong
-  both_low setting fault (inr (netlist, taken, inr (second, more, inr (circuit, of, inl wrong)))) = unrolled_two other second cycles fault wrong
+  both_low setting fault (inr (netlist, taken, inr (second, more, inl wrong))) = simpler_two net netlist cycles simple fault wrong
+  both_low setting fault (inr (netlist, taken, inr (second, more, inr (circuit, of, inl wrong)))) = simpler_two other second cycles simple fault wrong
   both_low setting fault (inr (netlist, taken, inr (second, more, inr (circuit, of, inr (beside, also, never))))) = absurd never
 
   module _ (bound : ℕ) (setting : SettingValue) (fault : Fault) where
-    same_split : ActionAnswer held setting (Same net other bound cycles) (Err fault) → IsSplit (BothGiven held net other cycles) (IsSameOver bound) setting fault
+    same_split : ActionAnswer held setting (Same net other bound cycles simple) (Err fault) → IsSplit (BothGiven held net other cycles simple) (IsSameOver bound) setting fault
     same_split (inl wrong) = inl (inl wrong)
     same_split (inr (netlist, taken, inl wrong)) = inl (inr (netlist, taken, inl wrong))
     same_split (inr (netlist, taken, inr (second, more, inl wrong))) = inl (inr (netlist, taken, inr (second, more, inl wrong)))
@@ -190,7 +202,7 @@ module _ (held : Option Files) (net other : Word) (cycles : ℕ) where
     same_split (inr (netlist, taken, inr (second, more, inr (circuit, of, inr (beside, also, inl stops))))) = inr ((circuit, beside), (netlist, taken, (second, more, (circuit, of, (beside, also, refl)))), stops)
     same_split (inr (netlist, taken, inr (second, more, inr (circuit, of, inr (beside, also, inr (found, is, never)))))) = absurd never
 
-    same_joined : IsSplit (BothGiven held net other cycles) (IsSameOver bound) setting fault → ActionAnswer held setting (Same net other bound cycles) (Err fault)
+    same_joined : IsSplit (BothGiven held net other cycles simple) (IsSameOver bound) setting fault → ActionAnswer held setting (Same net other bound cycles simple) (Err fault)
     same_joined (inl (inl wrong)) = inl wrong
     same_joined (inl (inr (netlist, taken, inl wrong))) = inr (netlist, taken, inl wrong)
     same_joined (inl (inr (netlist, taken, inr (second, more, inl wrong)))) = inr (netlist, taken, inr (second, more, inl wrong))
@@ -200,27 +212,27 @@ module _ (held : Option Files) (net other : Word) (cycles : ℕ) where
         let P : BoundNet × BoundNet → Type 0 = λ b. IsSameOver bound stage setting b in
         inr (netlist, taken, inr (second, more, inr (circuit, of, inr (beside, also, inl (stage, subst P same over, is)))))
 
-pub same_in_order : (held : Option Files) (words : List Word) (signature net other : Word) (bound cycles : ℕ) → IsSpelled words (Over signature (Same net other bound cycles)) → IsRefusedInOrder held words signature (BothGiven held net other cycles) (IsSameOver bound)
-same_in_order held words signature net other bound cycles spelled =
-    in_order words held signature (Same net other bound cycles) spelled (BothGiven held net other cycles) (IsSameOver bound) (both_low held net other cycles) (same_split held net other cycles bound) (λ setting fault is. same_joined held net other cycles bound setting fault)
+pub same_in_order : (held : Option Files) (words : List Word) (signature net other : Word) (bound cycles : ℕ) (simple : Bool) → IsSpelled words (Over signature (Same net other bound cycles simple)) → IsRefusedInOrder held words signature (BothGiven held net other cycles simple) (IsSameOver bound)
+same_in_order held words signature net other bound cycles simple spelled =
+    in_order words held signature (Same net other bound cycles simple) spelled (BothGiven held net other cycles simple) (IsSameOver bound) (both_low held net other cycles simple) (same_split held net other cycles simple bound) (λ setting fault is. same_joined held net other cycles simple bound setting fault)
 
 -- ---- over a netlist and a specification
 
-module _ (held : Option Files) (net specification : Word) (cycles : ℕ) where
-  specified_low : (setting : SettingValue) (fault : Fault) → SpecifiedGiven held net specification cycles setting (Err fault) → fault_status fault ≡ 2
+module _ (held : Option Files) (net specification : Word) (cycles : ℕ) (simple : Bool) where
+  specified_low : (setting : SettingValue) (fault : Fault) → SpecifiedGiven held net specification cycles simple setting (Err fault) → fault_status fault ≡ 2
   specified_low setting fault (inl wrong) = netlist_two held setting net fault wrong
   specified_low setting fault (inr (netlist, taken, inl wrong)) = said_two held setting specification fault wrong
-  specified_low setting fault (inr (netlist, taken, inr (spec, said, inl wrong))) = unrolled_two net netlist cycles fault wrong
+  specified_low setting fault (inr (netlist, taken, inr (spec, said, inl wrong))) = simpler_two net netlist cycles simple fault wrong
   specified_low setting fault (inr (netlist, taken, inr (spec, said, inr (circuit, of, never)))) = absurd never
 
   -- the polynomial in words of the circuit of a signature and a netlist
-  some_words : (signature : Word) (setting : SettingValue) (netlist circuit : BoundNet) → SettingIn held signature (Ok setting) → NetlistIn held setting.signature net (Ok netlist) → UnrolledIn net netlist cycles (Ok circuit) → (ts : Terms) × IsInWords setting circuit ts
-  some_words signature setting netlist circuit (signed, (text, read, is), are) (bytes, read', taken) of =
+  some_words : (signature : Word) (setting : SettingValue) (netlist circuit : BoundNet) → SettingIn held signature (Ok setting) → NetlistIn held setting.signature net (Ok netlist) → SimplerUnrolledIn net netlist cycles simple (Ok circuit) → (ts : Terms) × IsInWords setting circuit ts
+  some_words signature setting netlist circuit (signed, (text, read, is), are) (bytes, read', taken) (whole, of, made) =
       let setting_is : SettingOf text (Ok setting) = (signed, is, are) in
-      mix_polynomial (taken_circuit setting circuit) (well setting circuit (record { signature = text; is_setting = setting_is; netlist = by_ending net bytes; cycles = cycles; is_circuit = (netlist, taken, of) })) (length (taken_circuit setting circuit).words) (omega arith)
+      mix_polynomial (taken_circuit setting circuit) (well setting circuit (record { signature = text; is_setting = setting_is; netlist = by_ending net bytes; cycles = cycles; simple = simple; is_circuit = (whole, (netlist, taken, of), made) })) (length (taken_circuit setting circuit).words) (omega arith)
 
   module _ (bound : ℕ) (setting : SettingValue) (fault : Fault) where
-    check_split : ActionAnswer held setting (Check net specification bound cycles) (Err fault) → IsSplit (SpecifiedGiven held net specification cycles) (IsCheckOver bound) setting fault
+    check_split : ActionAnswer held setting (Check net specification bound cycles simple) (Err fault) → IsSplit (SpecifiedGiven held net specification cycles simple) (IsCheckOver bound) setting fault
     check_split (inl wrong) = inl (inl wrong)
     check_split (inr (netlist, taken, inl wrong)) = inl (inr (netlist, taken, inl wrong))
     check_split (inr (netlist, taken, inr (spec, said, inl wrong))) = inl (inr (netlist, taken, inr (spec, said, inl wrong)))
@@ -230,13 +242,13 @@ module _ (held : Option Files) (net specification : Word) (cycles : ℕ) where
     check_split (inr (netlist, taken, inr (spec, said, inr (circuit, of, inr (line, is, inr (found, judged, never)))))) = absurd never
 
     over_joined : (signature : Word) → SettingIn held signature (Ok setting) → (netlist : BoundNet) → NetlistIn held setting.signature net (Ok netlist) → (spec : SpecTerms) → SpecificationIn held (labels_of setting.k setting.signature.words) setting.k setting.product specification (Ok spec)
-        → (circuit : BoundNet) → UnrolledIn net netlist cycles (Ok circuit) → (stage : StageFault) → IsCheckOver bound stage setting (spec, circuit) → fault ≡ faults.Stage stage → ActionAnswer held setting (Check net specification bound cycles) (Err fault)
+        → (circuit : BoundNet) → SimplerUnrolledIn net netlist cycles simple (Ok circuit) → (stage : StageFault) → IsCheckOver bound stage setting (spec, circuit) → fault ≡ faults.Stage stage → ActionAnswer held setting (Check net specification bound cycles simple) (Err fault)
     over_joined signature is netlist taken spec said circuit of stage (inl over) same = inr (netlist, taken, inr (spec, said, inr (circuit, of, inl (inl (stage, over, same)))))
     over_joined signature is netlist taken spec said circuit of stage (inr (within, over)) same =
         let some = some_words signature setting netlist circuit is taken of in
         inr (netlist, taken, inr (spec, said, inr (circuit, of, inr (polynomial_line setting some.0, (some.0, (some.1, within), refl), inl (stage, over, same)))))
 
-    check_joined : (signature : Word) → SettingIn held signature (Ok setting) → IsSplit (SpecifiedGiven held net specification cycles) (IsCheckOver bound) setting fault → ActionAnswer held setting (Check net specification bound cycles) (Err fault)
+    check_joined : (signature : Word) → SettingIn held signature (Ok setting) → IsSplit (SpecifiedGiven held net specification cycles simple) (IsCheckOver bound) setting fault → ActionAnswer held setting (Check net specification bound cycles simple) (Err fault)
     check_joined signature is (inl (inl wrong)) = inl wrong
     check_joined signature is (inl (inr (netlist, taken, inl wrong))) = inr (netlist, taken, inl wrong)
     check_joined signature is (inl (inr (netlist, taken, inr (spec, said, inl wrong)))) = inr (netlist, taken, inr (spec, said, inl wrong))
@@ -245,7 +257,7 @@ module _ (held : Option Files) (net specification : Word) (cycles : ℕ) where
         let P : SpecTerms × BoundNet → Type 0 = λ g. IsCheckOver bound stage setting g in
         over_joined signature is netlist taken spec said circuit of stage (subst P same over) stops
 
-pub check_in_order : (held : Option Files) (words : List Word) (signature net specification : Word) (bound cycles : ℕ) → IsSpelled words (Over signature (Check net specification bound cycles)) → IsRefusedInOrder held words signature (SpecifiedGiven held net specification cycles) (IsCheckOver bound)
-check_in_order held words signature net specification bound cycles spelled =
-    in_order words held signature (Check net specification bound cycles) spelled (SpecifiedGiven held net specification cycles) (IsCheckOver bound) (specified_low held net specification cycles) (check_split held net specification cycles bound)
-    (λ setting fault is. check_joined held net specification cycles bound setting fault signature is)
+pub check_in_order : (held : Option Files) (words : List Word) (signature net specification : Word) (bound cycles : ℕ) (simple : Bool) → IsSpelled words (Over signature (Check net specification bound cycles simple)) → IsRefusedInOrder held words signature (SpecifiedGiven held net specification cycles simple) (IsCheckOver bound)
+check_in_order held words signature net specification bound cycles simple spelled =
+    in_order words held signature (Check net specification bound cycles simple) spelled (SpecifiedGiven held net specification cycles simple) (IsCheckOver bound) (specified_low held net specification cycles simple) (check_split held net specification cycles simple bound)
+    (λ setting fault is. check_joined held net specification cycles simple bound setting fault signature is)

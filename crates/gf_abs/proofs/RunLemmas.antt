@@ -64,34 +64,34 @@ module _ (words : List Word) (held : Option Files) (missed : Type 0) (status : �
   -- ---- polynomials
 
   pub abstract_written : AbstractPrints words held status old new
-  abstract_written files signature net bound cycles told spelled zero =
+  abstract_written files signature net bound cycles simple told spelled zero =
       let r = told_reply files told (zero_low zero) in
-      record { reply = r.reply; says = abstract_prints files words signature net cycles r.reply (record { bound = bound; spelled = spelled; answer = r.answer }); appended = r.appended }
+      record { reply = r.reply; says = abstract_prints files words signature net cycles r.reply (record { bound = bound; simple = simple; spelled = spelled; answer = r.answer }); appended = r.appended }
 
   pub bits_written : BitsPrints words held status old new
-  bits_written files signature net bound cycles told spelled zero =
+  bits_written files signature net bound cycles simple told spelled zero =
       let r = told_reply files told (zero_low zero) in
-      record { reply = r.reply; says = bits_print files words signature net cycles r.reply (record { bound = bound; spelled = spelled; answer = r.answer }); appended = r.appended }
+      record { reply = r.reply; says = bits_print files words signature net cycles r.reply (record { bound = bound; simple = simple; spelled = spelled; answer = r.answer }); appended = r.appended }
 
   pub accepted_written : CheckAccepts words held status old new
-  accepted_written files signature net specification bound cycles told spelled zero =
+  accepted_written files signature net specification bound cycles simple told spelled zero =
       let r = told_reply files told (zero_low zero) in
-      record { reply = r.reply; says = check_accepts files words signature net specification cycles r.reply (record { bound = bound; spelled = spelled; answer = r.answer }) (r.same ∙ zero); appended = r.appended }
+      record { reply = r.reply; says = check_accepts files words signature net specification cycles r.reply (record { bound = bound; simple = simple; spelled = spelled; answer = r.answer }) (r.same ∙ zero); appended = r.appended }
 
   pub rejected_written : CheckRejects words held status old new
-  rejected_written files signature net specification bound cycles told spelled one =
+  rejected_written files signature net specification bound cycles simple told spelled one =
       let r = told_reply files told (one_low one) in
-      record { reply = r.reply; says = check_rejects files words signature net specification cycles r.reply (record { bound = bound; spelled = spelled; answer = r.answer }) (r.same ∙ one); appended = r.appended }
+      record { reply = r.reply; says = check_rejects files words signature net specification cycles r.reply (record { bound = bound; simple = simple; spelled = spelled; answer = r.answer }) (r.same ∙ one); appended = r.appended }
 
   pub same_written : SameAgrees words held status old new
-  same_written files signature net other bound cycles told spelled zero =
+  same_written files signature net other bound cycles simple told spelled zero =
       let r = told_reply files told (zero_low zero) in
-      record { reply = r.reply; says = same_agrees files words signature net other cycles r.reply (record { bound = bound; spelled = spelled; answer = r.answer }) (r.same ∙ zero); appended = r.appended }
+      record { reply = r.reply; says = same_agrees files words signature net other cycles r.reply (record { bound = bound; simple = simple; spelled = spelled; answer = r.answer }) (r.same ∙ zero); appended = r.appended }
 
   pub difference_written : SameDiffers words held status old new
-  difference_written files signature net other bound cycles told spelled one =
+  difference_written files signature net other bound cycles simple told spelled one =
       let r = told_reply files told (one_low one) in
-      record { reply = r.reply; says = same_differs files words signature net other cycles r.reply (record { bound = bound; spelled = spelled; answer = r.answer }) (r.same ∙ one); appended = r.appended }
+      record { reply = r.reply; says = same_differs files words signature net other cycles r.reply (record { bound = bound; simple = simple; spelled = spelled; answer = r.answer }) (r.same ∙ one); appended = r.appended }
 
   pub element_written : EvalPrints words held status old new
   element_written files signature net values cycles told spelled zero =

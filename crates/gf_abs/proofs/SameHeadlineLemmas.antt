@@ -1,11 +1,12 @@
 -- What the answers of `same` say, out of what comes of its steps.
-use Rattle.std.proofs.Common.{◌≡◌, ◌⊎◌, ◌∙◌, ap, sym, subst, inl, inr, ℕ, List, Option, None, Some, Ok, ◌↔◌, codes, arith}
+use Rattle.std.proofs.Common.{◌≡◌, ◌⊎◌, ◌∙◌, ap, sym, subst, inl, inr, ℕ, Bool, List, Option, None, Some, Ok, ◌↔◌, codes, arith}
 use Rattle.job_io.specs.Shelf.{Files}
 use Rattle.net_words.specs.Binding.{BoundNet}
 use Rattle.circuit_model.specs.Alike.{AreAlike}
 use Rattle.circuit_model.specs.Circuit.{Circuit, IsInput}
 use Rattle.circuit_model.specs.Differing.{Difference, AreSame}
 use Rattle.circuit_model.specs.Out.{IsOut}
+use Rattle.circuit_model.proofs.DifferingLemmas.{one_comparison}
 use Rattle.circuit_model.proofs.OnesLemmas.{alike_long}
 use Rattle.circuit_model.proofs.OutLemmas.{one_out, some_out}
 use Rattle.job_words.specs.Operands.{Word}
@@ -23,8 +24,8 @@ use Rattle.answer_core.specs.Abstraction.{taken_circuit}
 use Rattle.answer_polynomials.specs.Same.{AreCompared, SameReply, same_reply}
 use Rattle.answer_polynomials.proofs.AlikeLemmas.{alike}
 use Rattle.answer_polynomials.proofs.EqualLemmas.{roles, well}
-use Rattle.gf_abs.proofs.HeadlineLemmas.{IsUnrolled, held_job, one_held, one_setting, unrolled}
-use Rattle.answer_core.proofs.JobLemmas.{both_one, differing}
+use Rattle.gf_abs.proofs.HeadlineLemmas.{IsUnrolled, held_job, one_held, one_setting, unrolled_with}
+use Rattle.answer_core.proofs.JobLemmas.{both_one, comparison, differing, one_through}
 
 -- what was compared for a reply
 pub record Compared (setting : SettingValue) (job second : Circuit) (reply : Reply) : Type 0 where
@@ -47,10 +48,10 @@ record HeldCompared (files : Files) (signature net other : Word) (cycles : ℕ) 
 replied_by : (setting : SettingValue) (circuit other : BoundNet) (job second : Circuit) (bound : ℕ) (reply : Reply) → IsUnrolled setting circuit job → IsUnrolled setting other second → SameReply setting circuit other bound (Ok reply) → Compared setting job second reply
 replied_by setting circuit other job second bound reply behind beside (found, is, exactly) = record { circuit = circuit; other = other; behind = behind; beside = beside; found = found; is = is.0; replied = exactly }
 
-job_compares : (files : Files) (signature net other : Word) (bound cycles : ℕ) (reply : Reply) → JobAnswer (Some files) (Over signature (Same net other bound cycles)) (Ok reply) → HeldCompared files signature net other cycles reply
-job_compares files signature net other bound cycles reply (signed, (text, read, is), (setting, are, (netlist, (bytes, read', taken), (second, (bytes', read'', taken'), (circuit, of, (more, of', came)))))) =
-    let behind = unrolled text (by_ending net bytes) cycles setting netlist circuit (signed, is, are) taken of in
-    let beside = unrolled text (by_ending other bytes') cycles setting second more (signed, is, are) taken' of' in
+job_compares : (files : Files) (signature net other : Word) (bound cycles : ℕ) (simple : Bool) (reply : Reply) → JobAnswer (Some files) (Over signature (Same net other bound cycles simple)) (Ok reply) → HeldCompared files signature net other cycles reply
+job_compares files signature net other bound cycles simple reply (signed, (text, read, is), (setting, are, (netlist, (bytes, read', taken), (second, (bytes', read'', taken'), (circuit, (whole, of, made), (more, (whole', of', made'), came)))))) =
+    let behind = unrolled_with text (by_ending net bytes) cycles setting netlist simple circuit (signed, is, are) taken whole of made in
+    let beside = unrolled_with text (by_ending other bytes') cycles setting second simple more (signed, is, are) taken' whole' of' made' in
     record {
       setting = setting;
       job = job_of setting netlist cycles;
@@ -65,7 +66,7 @@ module _ (files : Files) (words : List Word) (signature net other : Word) (cycle
   held_compared =
       let P : Job → Type 0 = λ job. JobAnswer (Some files) job (Ok reply) in
       let answer = answers.answer in
-      job_compares files signature net other answers.bound cycles reply (subst P (one_job words answer.0 (Over signature (Same net other answers.bound cycles)) answer.1 answers.spelled) answer.2)
+      job_compares files signature net other answers.bound cycles answers.simple reply (subst P (one_job words answer.0 (Over signature (Same net other answers.bound cycles answers.simple)) answer.1 answers.spelled) answer.2)
 
   -- the comparison of these jobs
   compared_for : (setting : SettingValue) (job second : Circuit) → AreHeld files signature net cycles setting job → AreHeld files signature other cycles setting second → Compared setting job second reply
@@ -195,3 +196,26 @@ module _ (files : Files) (words : List Word) (signature net other : Word) (cycle
     are = record { held = of_files.held; more = of_files.more };
     printed = differs_here files words signature net other cycles reply of_files.setting of_files.job of_files.second answers of_files.held of_files.more one;
   }
+
+-- ---- one reply
+
+-- two comparisons of the same jobs are one
+one_compared : (setting : SettingValue) (job second : Circuit) (reply reply' : Reply) → Compared setting job second reply → Compared setting job second reply' → reply ≡ reply'
+one_compared setting job second reply reply' a b =
+    let c : Circuit = taken_circuit setting a.circuit in
+    let d : Circuit = taken_circuit setting a.other in
+    let c' : Circuit = taken_circuit setting b.circuit in
+    let d' : Circuit = taken_circuit setting b.other in
+    let left = one_through c' c job b.behind.one a.behind.one in
+    let right = one_through d' d second b.beside.one a.beside.one in
+    let there : AreCompared setting a.circuit a.other b.found = comparison setting c' c left (IsOut c') (IsOut d') (IsOut c) (IsOut d) left.output right.output b.found b.is in
+    let fine = well setting a.circuit a.behind.taken in
+    let fine' = well setting a.other a.beside.taken in
+    let same : a.found ≡ b.found = one_comparison c (IsOut c) (IsOut d) fine (λ xs x y. one_out c xs x y fine) (λ xs x y. one_out d xs x y fine') a.found b.found a.is there in
+    a.replied ∙ (ap (λ (found : Option Difference). same_reply (labels_of setting.k setting.signature.words) found) same ∙ sym b.replied)
+
+-- runs over the same files have one reply, whatever the bounds, and with `--simplify` or without it
+pub one_same : (files : Files) (words words' : List Word) (signature net other : Word) (cycles : ℕ) (reply reply' : Reply) → AnswersSame files words signature net other cycles reply → AnswersSame files words' signature net other cycles reply' → reply ≡ reply'
+one_same files words words' signature net other cycles reply reply' is is' =
+    let first = held_compared files words signature net other cycles reply is in
+    one_compared first.setting first.job first.second reply reply' first.compared (compared_for files words' signature net other cycles reply' is' first.setting first.job first.second first.held first.more)

@@ -1,5 +1,5 @@
 -- Where nothing that `bits`, `abstract` or `eval` reads is refused, it has an answer.
-use Rattle.std.proofs.Common.{◌≡◌, ◌⊎◌, ◌∙◌, refl, sym, inl, inr, ℕ, List, length, Option, Result, Ok, Err, arith}
+use Rattle.std.proofs.Common.{◌≡◌, ◌⊎◌, ◌∙◌, refl, sym, inl, inr, ℕ, Bool, false, List, length, Option, Result, Ok, Err, arith}
 use Rattle.job_io.specs.Shelf.{Files}
 use Rattle.net_words.specs.Binding.{BoundNet}
 use Rattle.poly_mixed.specs.Polynomial.{Terms}
@@ -28,14 +28,14 @@ use Rattle.answer_core.specs.Abstraction.{IsInWords, IsLastCut, abstract_stages,
 use Rattle.answer_core.specs.Printed.{IsTaken}
 use Rattle.answer_core.specs.Reply.{Reply, prints}
 use Rattle.answer_core.specs.Staged.{either_text}
-use Rattle.answer_core.proofs.TakenLemmas.{bases_long}
+use Rattle.answer_core.proofs.SimplerLemmas.{simpler_long}
 use Rattle.answer_polynomials.specs.Abstract.{AbstractReply}
 use Rattle.answer_polynomials.specs.Bits.{BitsReply}
 use Rattle.answer_polynomials.specs.Eval.{element_line}
 use Rattle.answer_polynomials.specs.Values.{ValuesOf}
 use Rattle.answer_polynomials.proofs.ElementLemmas.{values_fit}
 use Rattle.answer_polynomials.proofs.EqualLemmas.{count, sound, well}
-use Rattle.gf_abs.specs.Refusals.{CircuitGiven, EvalGiven, HasAnswer, SettingIn}
+use Rattle.gf_abs.specs.Refusals.{EvalGiven, HasAnswer, SettingIn, SimplerGiven}
 
 -- ---- over a circuit
 
@@ -87,31 +87,32 @@ module _ (setting : SettingValue) (circuit : BoundNet) (bound : ℕ) (ok : IsWel
 
 -- ---- from the files
 
-module _ (held : Option Files) (words : List Word) (signature net : Word) (bound cycles : ℕ) (setting : SettingValue) (circuit : BoundNet) (setting_in : SettingIn held signature (Ok setting)) (circuit_in : CircuitGiven held net cycles setting (Ok circuit)) where
+module _ (held : Option Files) (words : List Word) (signature net : Word) (bound cycles : ℕ) (simple : Bool) (setting : SettingValue) (circuit : BoundNet) (setting_in : SettingIn held signature (Ok setting)) (circuit_in : SimplerGiven held net cycles simple setting (Ok circuit)) where
   taken : IsTaken setting circuit
   taken = record {
     signature = setting_in.1.0;
     is_setting = (setting_in.0, setting_in.1.2, setting_in.2);
-    netlist = by_ending net circuit_in.1.0;
+    netlist = by_ending net circuit_in.1.1.0;
     cycles = cycles;
-    is_circuit = (circuit_in.0, circuit_in.1.2, circuit_in.2);
+    simple = simple;
+    is_circuit = (circuit_in.0, (circuit_in.1.0, circuit_in.1.1.2, circuit_in.1.2), circuit_in.2);
   }
 
-  bits_answer : IsSpelled words (Over signature (Bits net bound cycles)) → (outcome : Result Reply Fault) → BitsReply setting circuit bound outcome → HasAnswer words held
-  bits_answer spelled (Ok reply) came = (Ok reply, (Over signature (Bits net bound cycles), spelled, (setting_in.0, setting_in.1, (setting, setting_in.2, (circuit, circuit_in, came)))))
-  bits_answer spelled (Err fault) came = (Err fault, inr (Over signature (Bits net bound cycles), spelled, inr (setting_in.0, setting_in.1, inr (setting, setting_in.2, inr (circuit, circuit_in, came)))))
+  bits_answer : IsSpelled words (Over signature (Bits net bound cycles simple)) → (outcome : Result Reply Fault) → BitsReply setting circuit bound outcome → HasAnswer words held
+  bits_answer spelled (Ok reply) came = (Ok reply, (Over signature (Bits net bound cycles simple), spelled, (setting_in.0, setting_in.1, (setting, setting_in.2, (circuit, circuit_in, came)))))
+  bits_answer spelled (Err fault) came = (Err fault, inr (Over signature (Bits net bound cycles simple), spelled, inr (setting_in.0, setting_in.1, inr (setting, setting_in.2, inr (circuit, circuit_in, came)))))
 
-  abstract_answer : IsSpelled words (Over signature (Abstract net bound cycles)) → (outcome : Result Reply Fault) → AbstractReply setting circuit bound outcome → HasAnswer words held
-  abstract_answer spelled (Ok reply) came = (Ok reply, (Over signature (Abstract net bound cycles), spelled, (setting_in.0, setting_in.1, (setting, setting_in.2, (circuit, circuit_in, came)))))
-  abstract_answer spelled (Err fault) came = (Err fault, inr (Over signature (Abstract net bound cycles), spelled, inr (setting_in.0, setting_in.1, inr (setting, setting_in.2, inr (circuit, circuit_in, came)))))
+  abstract_answer : IsSpelled words (Over signature (Abstract net bound cycles simple)) → (outcome : Result Reply Fault) → AbstractReply setting circuit bound outcome → HasAnswer words held
+  abstract_answer spelled (Ok reply) came = (Ok reply, (Over signature (Abstract net bound cycles simple), spelled, (setting_in.0, setting_in.1, (setting, setting_in.2, (circuit, circuit_in, came)))))
+  abstract_answer spelled (Err fault) came = (Err fault, inr (Over signature (Abstract net bound cycles simple), spelled, inr (setting_in.0, setting_in.1, inr (setting, setting_in.2, inr (circuit, circuit_in, came)))))
 
   bases_fit : length setting.bases ≡ length circuit.binding.words
-  bases_fit = bases_long setting circuit (sound setting circuit taken) taken.netlist taken.cycles taken.is_circuit
+  bases_fit = simpler_long setting circuit (sound setting circuit taken) taken.netlist taken.cycles taken.simple taken.is_circuit
 
-  pub bits_has_answer : IsSpelled words (Over signature (Bits net bound cycles)) → HasAnswer words held
+  pub bits_has_answer : IsSpelled words (Over signature (Bits net bound cycles simple)) → HasAnswer words held
   bits_has_answer spelled = let some = some_bits setting circuit bound (well setting circuit taken) bases_fit in bits_answer spelled some.0 some.1
 
-  pub abstract_has_answer : IsSpelled words (Over signature (Abstract net bound cycles)) → HasAnswer words held
+  pub abstract_has_answer : IsSpelled words (Over signature (Abstract net bound cycles simple)) → HasAnswer words held
   abstract_has_answer spelled = let some = some_abstract setting circuit bound (well setting circuit taken) bases_fit in abstract_answer spelled some.0 some.1
 
 -- an output at the values, which are an input
@@ -124,7 +125,8 @@ module _ (held : Option Files) (words : List Word) (signature net : Word) (value
         is_setting = (setting_in.0, setting_in.1.2, setting_in.2);
         netlist = by_ending net netlist_in.0;
         cycles = cycles;
-        is_circuit = (netlist, netlist_in.2, of);
+        simple = false;
+        is_circuit = (circuit, (netlist, netlist_in.2, of), refl);
       } in
       let fit = values_fit setting.k (length (labels_of setting.k setting.signature.words).words) values xs are in
       let input : IsInput (taken_circuit setting circuit) xs = record { long = fit.0 ∙ sym (count setting circuit taken); elements = fit.1 } in

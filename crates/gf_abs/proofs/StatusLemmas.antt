@@ -34,10 +34,10 @@ verify_status labels (valid claim) reply same = inl (ap (λ (r : Reply). r.statu
 verify_status labels (invalid remaining) reply same = inr (ap (λ (r : Reply). r.status) same)
 
 action_status : (held : Option Files) (setting : SettingValue) (action : Action) (reply : Reply) → ActionAnswer held setting action (Ok reply) → IsZeroOrOne reply
-action_status held setting (Bits net terms cycles) reply (circuit, taken, (ts, is, same)) = inl (ap (λ (r : Reply). r.status) same)
-action_status held setting (Abstract net terms cycles) reply (circuit, taken, (ts, is, same)) = inl (ap (λ (r : Reply). r.status) same)
-action_status held setting (Check net specification terms cycles) reply (netlist, taken, (spec, said, (circuit, of, (line, is, (found, judged, same))))) = check_status (labels_of setting.k setting.signature.words) line found reply same
-action_status held setting (Same net other terms cycles) reply (netlist, taken, (second, more, (circuit, of, (other', of', (found, compared, same))))) = same_status (labels_of setting.k setting.signature.words) found reply same
+action_status held setting (Bits net terms cycles simple) reply (circuit, taken, (ts, is, same)) = inl (ap (λ (r : Reply). r.status) same)
+action_status held setting (Abstract net terms cycles simple) reply (circuit, taken, (ts, is, same)) = inl (ap (λ (r : Reply). r.status) same)
+action_status held setting (Check net specification terms cycles simple) reply (netlist, taken, (spec, said, (circuit, of, (line, is, (found, judged, same))))) = check_status (labels_of setting.k setting.signature.words) line found reply same
+action_status held setting (Same net other terms cycles simple) reply (netlist, taken, (second, more, (circuit, of, (other', of', (found, compared, same))))) = same_status (labels_of setting.k setting.signature.words) found reply same
 action_status held setting (Eval net values cycles) reply (netlist, taken, (xs, are, (circuit, of, (e, out, same)))) = inl (ap (λ (r : Reply). r.status) same)
 action_status held setting (Iso other) reply (second, taken, images) = inl (ap (λ (r : Reply). r.status) images.text)
 action_status held setting (Lift table) reply (small, is, (values, taken, (ts, of, same))) = inl (ap (λ (r : Reply). r.status) same)

@@ -1,11 +1,14 @@
 -- What the program answers to its words, over the files that the shelf holds: the table of commands. Source: this project's own.
-use Rattle.std.specs.Prelude.{◌≡◌, List, Option, Ok, Err}
+use Rattle.std.specs.Prelude.{◌≡◌, ℕ, List, Option, Ok, Err}
 use Rattle.outcome.specs.Outcome.{Outcome, ◌>>=◌, Within}
+use Rattle.net_signature.specs.Signature.{SignatureValue}
 use Rattle.job_io.specs.Shelf.{Files}
 use Rattle.job_words.specs.declared.fault.Fault.{Fault}
 use Rattle.job_words.specs.declared.fault.Fault.TheVariants.{Words, Signature}
+use Rattle.job_words.specs.declared.command.Command.{Command}
+use Rattle.job_words.specs.declared.command.Task.{Task}
 use Rattle.job_words.specs.Operands.{Word}
-use Rattle.job_words.specs.Command.{Action, Bits, Abstract, Check, Same, Eval, Iso, Lift, Table, Certify, Verify, Upgrade, Make, Compose, Job, Over, Trial, IsSpelled}
+use Rattle.job_words.specs.Command.{Action, Bits, Abstract, Check, Same, Eval, Iso, Lift, Table, Certify, Verify, Upgrade, Make, Compose, Job, Over, Trial, IsSpelled, action_of, spelled_job}
 use Rattle.job_input.specs.SettingOf.{SignedValue, SettingWith}
 use Rattle.job_input.specs.SettingValue.{SettingValue}
 use Rattle.job_input.specs.SignedIn.{SignedIn}
@@ -32,10 +35,10 @@ Spelled words (Err fault) = (fault ≡ Words) × ((job : Job) → IsSpelled word
 
 -- what comes of a command after its signature was taken
 abbrev pub ActionAnswer : Option Files → SettingValue → Action → Outcome Fault Reply
-ActionAnswer held setting (Bits net terms cycles) = BitsAnswer held setting net terms cycles
-ActionAnswer held setting (Abstract net terms cycles) = AbstractAnswer held setting net terms cycles
-ActionAnswer held setting (Check net specification terms cycles) = CheckAnswer held setting net specification terms cycles
-ActionAnswer held setting (Same net other terms cycles) = SameAnswer held setting net other terms cycles
+ActionAnswer held setting (Bits net terms cycles simple) = BitsAnswer held setting net terms cycles simple
+ActionAnswer held setting (Abstract net terms cycles simple) = AbstractAnswer held setting net terms cycles simple
+ActionAnswer held setting (Check net specification terms cycles simple) = CheckAnswer held setting net specification terms cycles simple
+ActionAnswer held setting (Same net other terms cycles simple) = SameAnswer held setting net other terms cycles simple
 ActionAnswer held setting (Eval net values cycles) = EvalAnswer held setting net values cycles
 ActionAnswer held setting (Iso other) = IsoAnswer held setting.signature other
 ActionAnswer held setting (Lift table) = LiftAnswer held setting table
@@ -64,3 +67,25 @@ abbrev pub Answer : List Word → Option Files → Outcome Fault Reply
 Answer words held = do
   job ← Spelled words
   JobAnswer held job
+
+-- ---- the same of the program's own values, for the clauses of private functions
+
+-- a signature with the field of this degree and product
+abbrev pub signed_with : ℕ → (ℕ → ℕ → ℕ) → SignatureValue → SignedValue
+signed_with k product signature = record { signature = signature; field = record { k = k; product = product } }
+
+-- what comes of a task over a setting
+abbrev pub TaskAnswer : SettingValue → Task → Option Files → Outcome Fault Reply
+TaskAnswer setting task held = ActionAnswer held setting (action_of task)
+
+-- over a signature with its field
+abbrev pub SignedTask : SignedValue → Task → Option Files → Outcome Fault Reply
+SignedTask signed task held = SignedAnswer held signed (action_of task)
+
+-- over the signature of this file
+abbrev pub TaskOver : Word → Task → Option Files → Outcome Fault Reply
+TaskOver file task held = JobAnswer held (Over file (action_of task))
+
+-- what comes of a command
+abbrev pub CommandAnswer : Command → Option Files → Outcome Fault Reply
+CommandAnswer command held = JobAnswer held (spelled_job command)

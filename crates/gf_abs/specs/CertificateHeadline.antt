@@ -127,3 +127,35 @@ IsAcceptedAgain files signature net bound cycles reply =
 abbrev pub HasTheSameReply : (files : Files) (signature net certificate : Word) (cycles : ℕ) → Reply → Type 0
 HasTheSameReply files signature net certificate cycles reply =
     (others : Files) (before after : List Word) (upgraded : Word) (first second : Reply) → HoldOneJob files others signature net → Read (Some others) upgraded (Ok reply.text) → AnswersVerify files before signature net certificate cycles first → AnswersVerify others after signature net upgraded cycles second → first ≡ second
+
+-- ---- what is said of all runs of these commands over held files
+
+-- of each reply of `verify`
+abbrev pub EachVerifyReply : (Files → (signature net certificate : Word) → (cycles : ℕ) → Reply → Type 0) → Type 0
+EachVerifyReply Says = (files : Files) (words : List Word) (signature net certificate : Word) (cycles : ℕ) (reply : Reply)
+    → AnswersVerify files words signature net certificate cycles reply → Says files signature net certificate cycles reply
+
+-- of all words that spell `verify`
+abbrev pub EachVerify : (Files → List Word → (signature net certificate : Word) → (bound cycles : ℕ) → Type 0) → Type 0
+EachVerify Says = (files : Files) (words : List Word) (signature net certificate : Word) (bound cycles : ℕ)
+    → IsSpelled words (Over signature (Verify net certificate bound cycles)) → Says files words signature net certificate bound cycles
+
+-- where the words spell `verify` and the certificate has a last running sum with terms, the answer says how many
+abbrev pub AnswersTermsLeft : Files → List Word → (signature net certificate : Word) → (bound cycles : ℕ) → Type 0
+AnswersTermsLeft files words signature net certificate bound cycles = (sum : Terms)
+    → IsSpelled words (Over signature (Verify net certificate bound cycles)) → HoldLastSum files signature net certificate bound cycles sum → sum ≢ []
+    → Answer words (Some files) (Ok (terms_left sum))
+
+-- wherever what `certify` printed is held as a certificate of the same signature and netlist, `verify` answers `valid` under each bound
+-- that is at least four times that of `certify`
+abbrev pub CertificatesAreAccepted : Type 0
+CertificatesAreAccepted = (files others : Files) (words more : List Word) (signature net certificate : Word) (bound most cycles : ℕ) (reply : Reply)
+    → AnswersCertify files words signature net bound cycles reply → HoldOneJob files others signature net → Read (Some others) certificate (Ok reply.text) → 4 * bound ≤ most
+    → IsSpelled more (Over signature (Verify net certificate most cycles)) → IsAccepted others more
+
+-- wherever what `upgrade` printed of a certificate is held as one of the same signature and netlist, `verify` has one reply for both,
+-- where it has a reply for both
+abbrev pub UpgradesHaveTheSameReply : Type 0
+UpgradesHaveTheSameReply = (files others : Files) (words before after : List Word) (signature net certificate upgraded : Word) (cycles : ℕ) (reply first second : Reply)
+    → AnswersUpgrade files words signature net certificate cycles reply → HoldOneJob files others signature net → Read (Some others) upgraded (Ok reply.text)
+    → AnswersVerify files before signature net certificate cycles first → AnswersVerify others after signature net upgraded cycles second → first ≡ second

@@ -1,5 +1,5 @@
 -- What the answers of `check` say of the job and the specification in the files. Source: this project's own.
-use Rattle.std.specs.Prelude.{◌≡◌, ◌↔◌, ℕ, List, ◌++◌, codes, Some, Ok}
+use Rattle.std.specs.Prelude.{◌≡◌, ◌↔◌, ℕ, Bool, List, ◌++◌, codes, Some, Ok}
 use Rattle.job_io.specs.Shelf.{Files}
 use Rattle.poly_mixed.specs.Polynomial.{Terms}
 use Rattle.circuit_model.specs.Circuit.{Circuit}
@@ -18,10 +18,11 @@ use Rattle.answer_core.specs.Reply.{Reply, polynomial_line}
 use Rattle.answer_core.specs.Judged.{Computes, IsSpecified}
 
 -- to the words `check SIGNATURE NET SPECIFICATION` over the held files the program answers with this reply, over so many cycles after
--- the first
+-- the first; under any bound on terms, and with `--simplify` or without it
 pub record AnswersCheck (files : Files) (words : List Word) (signature net specification : Word) (cycles : ℕ) (reply : Reply) : Type 0 where
   pub bound : ℕ
-  pub spelled : IsSpelled words (Over signature (Check net specification bound cycles))
+  pub simple : Bool
+  pub spelled : IsSpelled words (Over signature (Check net specification bound cycles simple))
   pub answer : Answer words (Some files) (Ok reply)
 
 -- the held files of these names give the setting, the job and the specification
@@ -70,3 +71,8 @@ pub record PrintsHeldRejection (files : Files) (signature net specification : Wo
   pub spec : SpecTerms
   pub held : AreHeldWith files signature net specification cycles setting job spec
   pub printed : PrintsRejection setting job spec reply
+
+-- what is said of each reply of `check` over held files
+abbrev pub EachCheckReply : (Files → (signature net specification : Word) → (cycles : ℕ) → Reply → Type 0) → Type 0
+EachCheckReply Says = (files : Files) (words : List Word) (signature net specification : Word) (cycles : ℕ) (reply : Reply)
+    → AnswersCheck files words signature net specification cycles reply → Says files signature net specification cycles reply

@@ -32,3 +32,8 @@ pub record PrintsHeldElement (files : Files) (signature net : Word) (values : Li
   pub job : Circuit
   pub held : AreHeld files signature net cycles setting job
   pub printed : PrintsElement setting job values reply
+
+-- what is said of each reply of `eval` over held files
+abbrev pub EachEvalReply : (Files → (signature net : Word) → (values : List Word) → (cycles : ℕ) → Reply → Type 0) → Type 0
+EachEvalReply Says = (files : Files) (words : List Word) (signature net : Word) (values : List Word) (cycles : ℕ) (reply : Reply)
+    → AnswersEval files words signature net values cycles reply → Says files signature net values cycles reply

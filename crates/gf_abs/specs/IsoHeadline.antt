@@ -23,3 +23,7 @@ pub record PrintsImages (files : Files) (signature other : Word) (reply : Reply)
   pub is_second : IsHeldSetting files other second
   pub images : AreImages first.signature second.signature reply
   pub status : reply.status ≡ 0
+
+-- what is said of each reply of `iso` over held files
+abbrev pub EachIsoReply : (Files → (signature other : Word) → Reply → Type 0) → Type 0
+EachIsoReply Says = (files : Files) (words : List Word) (signature other : Word) (reply : Reply) → AnswersIso files words signature other reply → Says files signature other reply

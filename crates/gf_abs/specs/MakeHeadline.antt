@@ -16,3 +16,8 @@ pub record AnswersMake (files : Files) (words : List Word) (kind : Kind) (signat
 -- wherever the reply's text is held as a netlist in BLIF beside the same signature, the two give a job that computes what the kind does
 abbrev pub IsComputedAgain : (files : Files) (kind : Kind) (signature : Word) → Reply → Type 0
 IsComputedAgain files kind signature reply = (others : Files) (net : Word) → HoldMade files others signature net reply.text → HoldKind others signature net kind
+
+-- wherever what `make` printed is held as a netlist in BLIF beside the same signature, the two give a job that computes what the kind does
+abbrev pub MadeNetlistsCompute : Type 0
+MadeNetlistsCompute = (files others : Files) (words : List Word) (kind : Kind) (signature net : Word) (reply : Reply)
+    → AnswersMake files words kind signature reply → HoldMade files others signature net reply.text → HoldKind others signature net kind

@@ -1,6 +1,6 @@
 -- When a command is refused, and when it stops at a stage: what it reads, step by step, of which the first fault counts, and then the
 -- first of its stages over the bound. Source: this project's own, docs/COMMANDS.md.
-use Rattle.std.specs.Prelude.{◌≡◌, ◌⊎◌, ◌↔◌, ℕ, List, [], length, Option, Some, Result, Ok, Err}
+use Rattle.std.specs.Prelude.{◌≡◌, ◌⊎◌, ◌↔◌, ℕ, Bool, List, [], length, Option, Some, Result, Ok, Err}
 use Rattle.outcome.specs.Outcome.{Outcome, ◌>>=◌, Exactly, Within}
 use Rattle.job_io.specs.Shelf.{Files}
 use Rattle.gf_basis.specs.declared.bases.Basis.{Basis}
@@ -18,7 +18,7 @@ use Rattle.block_compose.specs.Composed.{ComposesIn}
 use Rattle.block_compose.specs.declared.fault.ComposeFault.{ComposeFault}
 use Rattle.block_compose.specs.declared.fault.ComposeFault.TheVariants.{TooManyTerms}
 use Rattle.job_words.specs.Fault.{fault_status}
-use Rattle.job_words.specs.Command.{Abstract, Action, Bits, Certify, Check, Compose, Eval, Iso, Lift, Make, Same, Table, Upgrade, Verify}
+use Rattle.job_words.specs.Command.{Abstract, Action, Bits, Certify, Check, Compose, Eval, Iso, Lift, Make, Over, Same, Table, Trial, Upgrade, Verify, IsSpelled}
 use Rattle.job_words.specs.Operands.{Word}
 use Rattle.job_words.specs.StageFault.{stage_text}
 use Rattle.job_words.specs.declared.fault.Fault.{Fault}
@@ -36,6 +36,7 @@ use Rattle.job_input.specs.SpecificationIn.{SpecificationIn}
 use Rattle.make_trial.specs.Trial.{product_terms, trial_circuit, trial_setting}
 use Rattle.answer_core.specs.Abstraction.{abstract_stages, bits_stages, taken_circuit}
 use Rattle.answer_core.specs.Reply.{Reply}
+use Rattle.answer_core.specs.Simpler.{SimplerIn, SimplerUnrolledIn}
 use Rattle.answer_core.specs.Staged.{IsStageOver, either_net_text, either_text}
 use Rattle.answer_certificates.specs.Certificates.{CertifiedIn, HaveDuals, certificate_fault_of, certificate_labels, sum_name}
 use Rattle.answer_composition.specs.Compose.{ListsOf, compose_fault, hierarchy_with, stage_called}
@@ -51,16 +52,21 @@ SettingIn held signature = do
   signed ← SignedIn held signature
   Within faults.Signature (SettingWith signed)
 
--- after the setting `bits`, `abstract` and `certify` read a netlist, and unroll its cycles
+-- after the setting `certify` reads a netlist, and unrolls its cycles
 abbrev pub CircuitGiven : Option Files → (net : Word) → (cycles : ℕ) → SettingValue → Outcome Fault BoundNet
 CircuitGiven held net cycles setting = CircuitIn held setting.signature net cycles
 
--- `check` reads a netlist and then a specification, and then unrolls the netlist's cycles
-abbrev pub SpecifiedGiven : Option Files → (net specification : Word) → (cycles : ℕ) → SettingValue → Outcome Fault (SpecTerms × BoundNet)
-SpecifiedGiven held net specification cycles setting = do
+-- so do `bits` and `abstract`, and make their circuit simpler where it is asked for
+abbrev pub SimplerGiven : Option Files → (net : Word) → (cycles : ℕ) → (simple : Bool) → SettingValue → Outcome Fault BoundNet
+SimplerGiven held net cycles simple setting = SimplerIn held setting.signature net cycles simple
+
+-- `check` reads a netlist and then a specification, and then unrolls the netlist's cycles and makes their circuit simpler where it is
+-- asked for
+abbrev pub SpecifiedGiven : Option Files → (net specification : Word) → (cycles : ℕ) → (simple : Bool) → SettingValue → Outcome Fault (SpecTerms × BoundNet)
+SpecifiedGiven held net specification cycles simple setting = do
   netlist ← NetlistIn held setting.signature net
   spec ← SpecificationIn held (labels_of setting.k setting.signature.words) setting.k setting.product specification
-  circuit ← UnrolledIn net netlist cycles
+  circuit ← SimplerUnrolledIn net netlist cycles simple
   Exactly (spec, circuit)
 
 -- `eval` reads a netlist and then its values, and then unrolls the netlist's cycles
@@ -71,13 +77,14 @@ EvalGiven held net values cycles setting = do
   circuit ← UnrolledIn net netlist cycles
   Exactly (xs, circuit)
 
--- `same` reads two netlists, and then unrolls the cycles of the first and of the second
-abbrev pub BothGiven : Option Files → (net other : Word) → (cycles : ℕ) → SettingValue → Outcome Fault (BoundNet × BoundNet)
-BothGiven held net other cycles setting = do
+-- `same` reads two netlists, and then unrolls the cycles of the first and of the second, and makes each circuit simpler where it is
+-- asked for
+abbrev pub BothGiven : Option Files → (net other : Word) → (cycles : ℕ) → (simple : Bool) → SettingValue → Outcome Fault (BoundNet × BoundNet)
+BothGiven held net other cycles simple setting = do
   netlist ← NetlistIn held setting.signature net
   second ← NetlistIn held setting.signature other
-  circuit ← UnrolledIn net netlist cycles
-  more ← UnrolledIn other second cycles
+  circuit ← SimplerUnrolledIn net netlist cycles simple
+  more ← SimplerUnrolledIn other second cycles simple
   Exactly (circuit, more)
 
 -- ---- refusals and stops
@@ -205,10 +212,10 @@ HierarchyGiven held net bound setting (Err fault) =
 
 -- those over a signature
 abbrev pub HasNoStages : Action → Type 0
-HasNoStages (Bits net terms cycles) = ⊥
-HasNoStages (Abstract net terms cycles) = ⊥
-HasNoStages (Check net specification terms cycles) = ⊥
-HasNoStages (Same net other terms cycles) = ⊥
+HasNoStages (Bits net terms cycles simple) = ⊥
+HasNoStages (Abstract net terms cycles simple) = ⊥
+HasNoStages (Check net specification terms cycles simple) = ⊥
+HasNoStages (Same net other terms cycles simple) = ⊥
 HasNoStages (Certify net terms cycles) = ⊥
 HasNoStages (Verify net certificate terms cycles) = ⊥
 HasNoStages (Compose net terms) = ⊥
@@ -218,3 +225,54 @@ HasNoStages (Lift table) = Unit {0}
 HasNoStages (Table net cycles) = Unit {0}
 HasNoStages (Upgrade net certificate cycles) = Unit {0}
 HasNoStages (Make kind) = Unit {0}
+
+-- ---- what is said of all words that spell a command, whatever the shelf tells of its files
+
+-- of those that spell an action over a signature, and of each fault
+abbrev pub OfActions : (Option Files → List Word → Word → Action → Fault → Type 0) → Type 0
+OfActions Says = (held : Option Files) (words : List Word) (signature : Word) (action : Action) (fault : Fault)
+    → IsSpelled words (Over signature action) → Says held words signature action fault
+
+-- of those that spell `bits`
+abbrev pub OfBits : (Option Files → List Word → (signature net : Word) → (bound cycles : ℕ) → (simple : Bool) → Type 0) → Type 0
+OfBits Says = (held : Option Files) (words : List Word) (signature net : Word) (bound cycles : ℕ) (simple : Bool)
+    → IsSpelled words (Over signature (Bits net bound cycles simple)) → Says held words signature net bound cycles simple
+
+-- `abstract`
+abbrev pub OfAbstract : (Option Files → List Word → (signature net : Word) → (bound cycles : ℕ) → (simple : Bool) → Type 0) → Type 0
+OfAbstract Says = (held : Option Files) (words : List Word) (signature net : Word) (bound cycles : ℕ) (simple : Bool)
+    → IsSpelled words (Over signature (Abstract net bound cycles simple)) → Says held words signature net bound cycles simple
+
+-- `certify`
+abbrev pub OfCertify : (Option Files → List Word → (signature net : Word) → (bound cycles : ℕ) → Type 0) → Type 0
+OfCertify Says = (held : Option Files) (words : List Word) (signature net : Word) (bound cycles : ℕ)
+    → IsSpelled words (Over signature (Certify net bound cycles)) → Says held words signature net bound cycles
+
+-- `check`
+abbrev pub OfCheck : (Option Files → List Word → (signature net spec : Word) → (bound cycles : ℕ) → (simple : Bool) → Type 0) → Type 0
+OfCheck Says = (held : Option Files) (words : List Word) (signature net spec : Word) (bound cycles : ℕ) (simple : Bool)
+    → IsSpelled words (Over signature (Check net spec bound cycles simple)) → Says held words signature net spec bound cycles simple
+
+-- `same`
+abbrev pub OfSame : (Option Files → List Word → (signature net other : Word) → (bound cycles : ℕ) → (simple : Bool) → Type 0) → Type 0
+OfSame Says = (held : Option Files) (words : List Word) (signature net other : Word) (bound cycles : ℕ) (simple : Bool)
+    → IsSpelled words (Over signature (Same net other bound cycles simple)) → Says held words signature net other bound cycles simple
+
+-- `verify`
+abbrev pub OfVerify : (Option Files → List Word → (signature net cert : Word) → (bound cycles : ℕ) → Type 0) → Type 0
+OfVerify Says = (held : Option Files) (words : List Word) (signature net cert : Word) (bound cycles : ℕ)
+    → IsSpelled words (Over signature (Verify net cert bound cycles)) → Says held words signature net cert bound cycles
+
+-- `compose`
+abbrev pub OfCompose : (Option Files → List Word → (signature net : Word) → (bound : ℕ) → Type 0) → Type 0
+OfCompose Says = (held : Option Files) (words : List Word) (signature net : Word) (bound : ℕ)
+    → IsSpelled words (Over signature (Compose net bound)) → Says held words signature net bound
+
+-- `eval`
+abbrev pub OfEval : (Option Files → List Word → (signature net : Word) → (values : List Word) → (cycles : ℕ) → Type 0) → Type 0
+OfEval Says = (held : Option Files) (words : List Word) (signature net : Word) (values : List Word) (cycles : ℕ)
+    → IsSpelled words (Over signature (Eval net values cycles)) → Says held words signature net values cycles
+
+-- and of those that spell a trial
+abbrev pub OfTrial : (Option Files → List Word → (number modulus bound : ℕ) → Type 0) → Type 0
+OfTrial Says = (held : Option Files) (words : List Word) (number modulus bound : ℕ) → IsSpelled words (Trial number modulus bound) → Says held words number modulus bound

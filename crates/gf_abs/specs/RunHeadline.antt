@@ -1,5 +1,5 @@
 -- What a run printed, command by command, of the job that the held files give. Source: this project's own.
-use Rattle.std.specs.Prelude.{◌≡◌, ℕ, List, Option, Some}
+use Rattle.std.specs.Prelude.{◌≡◌, ℕ, Bool, List, Option, Some}
 use Rattle.job_io.specs.Shelf.{Files}
 use Rattle.job_words.specs.Command.{Abstract, Bits, Certify, Check, Compose, Eval, Iso, Job, Lift, Make, Over, Same, Table, Trial, Upgrade, Verify, IsSpelled}
 use Rattle.job_words.specs.Operands.{Word}
@@ -25,27 +25,27 @@ module _ (words : List Word) (held : Option Files) (status : ℕ) (old new : Opt
 
   -- `abstract` printed the reduced polynomial in the job's words that has the output's element at every input
   abbrev pub AbstractPrints : Type 0
-  AbstractPrints = (files : Files) (signature net : Word) (bound cycles : ℕ) → Wrote files (Over signature (Abstract net bound cycles)) 0 (PrintsHeld files signature net cycles)
+  AbstractPrints = (files : Files) (signature net : Word) (bound cycles : ℕ) (simple : Bool) → Wrote files (Over signature (Abstract net bound cycles simple)) 0 (PrintsHeld files signature net cycles)
 
   -- `bits` printed the reduced polynomial in the bits of these words that has the output's element at the bits of every input
   abbrev pub BitsPrints : Type 0
-  BitsPrints = (files : Files) (signature net : Word) (bound cycles : ℕ) → Wrote files (Over signature (Bits net bound cycles)) 0 (PrintsHeldInBits files signature net cycles)
+  BitsPrints = (files : Files) (signature net : Word) (bound cycles : ℕ) (simple : Bool) → Wrote files (Over signature (Bits net bound cycles simple)) 0 (PrintsHeldInBits files signature net cycles)
 
   -- `check` printed that the job computes its specification, and the job's polynomial
   abbrev pub CheckAccepts : Type 0
-  CheckAccepts = (files : Files) (signature net specification : Word) (bound cycles : ℕ) → Wrote files (Over signature (Check net specification bound cycles)) 0 (PrintsHeldAcceptance files signature net specification cycles)
+  CheckAccepts = (files : Files) (signature net specification : Word) (bound cycles : ℕ) (simple : Bool) → Wrote files (Over signature (Check net specification bound cycles simple)) 0 (PrintsHeldAcceptance files signature net specification cycles)
 
   -- or it printed an input at which the job does not compute its specification, with both values there, and the job's polynomial
   abbrev pub CheckRejects : Type 0
-  CheckRejects = (files : Files) (signature net specification : Word) (bound cycles : ℕ) → Wrote files (Over signature (Check net specification bound cycles)) 1 (PrintsHeldRejection files signature net specification cycles)
+  CheckRejects = (files : Files) (signature net specification : Word) (bound cycles : ℕ) (simple : Bool) → Wrote files (Over signature (Check net specification bound cycles simple)) 1 (PrintsHeldRejection files signature net specification cycles)
 
   -- `same` printed that both jobs have one output at every input
   abbrev pub SameAgrees : Type 0
-  SameAgrees = (files : Files) (signature net other : Word) (bound cycles : ℕ) → Wrote files (Over signature (Same net other bound cycles)) 0 (PrintsHeldSame files signature net other cycles)
+  SameAgrees = (files : Files) (signature net other : Word) (bound cycles : ℕ) (simple : Bool) → Wrote files (Over signature (Same net other bound cycles simple)) 0 (PrintsHeldSame files signature net other cycles)
 
   -- or it printed an input at which they have not, with both outputs there
   abbrev pub SameDiffers : Type 0
-  SameDiffers = (files : Files) (signature net other : Word) (bound cycles : ℕ) → Wrote files (Over signature (Same net other bound cycles)) 1 (PrintsHeldDifference files signature net other cycles)
+  SameDiffers = (files : Files) (signature net other : Word) (bound cycles : ℕ) (simple : Bool) → Wrote files (Over signature (Same net other bound cycles simple)) 1 (PrintsHeldDifference files signature net other cycles)
 
   -- `verify` printed a claim that is the polynomial of the output
   abbrev pub VerifyProves : Type 0

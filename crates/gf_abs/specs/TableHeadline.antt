@@ -13,6 +13,7 @@ use Rattle.job_input.specs.File.{Read}
 use Rattle.job_input.specs.SettingOf.{SettingOf}
 use Rattle.job_input.specs.SettingValue.{SettingValue}
 use Rattle.gf_abs.specs.Answer.{Answer}
+use Rattle.gf_abs.specs.Headline.{AnswersAbstract}
 use Rattle.answer_core.specs.Printed.{AreHeld}
 use Rattle.answer_core.specs.Reply.{Reply, polynomial_line}
 use Rattle.answer_tables.specs.Lift.{table_words}
@@ -63,3 +64,19 @@ pub record PrintsHeldLift (files : Files) (signature file : Word) (reply : Reply
   pub setting : SettingValue
   pub held : IsHeldSetting files signature setting
   pub printed : PrintsLifted files setting file reply
+
+-- what is said of each reply of `table` over held files
+abbrev pub EachTableReply : (Files → (signature net : Word) → (cycles : ℕ) → Reply → Type 0) → Type 0
+EachTableReply Says = (files : Files) (words : List Word) (signature net : Word) (cycles : ℕ) (reply : Reply)
+    → AnswersTable files words signature net cycles reply → Says files signature net cycles reply
+
+-- of each reply of `lift`
+abbrev pub EachLiftReply : (Files → (signature table : Word) → Reply → Type 0) → Type 0
+EachLiftReply Says = (files : Files) (words : List Word) (signature table : Word) (reply : Reply) → AnswersLift files words signature table reply → Says files signature table reply
+
+-- where `abstract` and `table` have a reply over the same files, and `lift` has one over a signature of the same setting and a file that
+-- holds what `table` printed, `lift` prints the bytes of `abstract`
+abbrev pub TablesAreLiftedToAbstract : Type 0
+TablesAreLiftedToAbstract = (files files' : Files) (words words' words'' : List Word) (signature signature' net table : Word) (cycles : ℕ) (reply tabled lifted : Reply) (setting : SettingValue) (job : Circuit)
+    → AnswersAbstract files words signature net cycles reply → AnswersTable files words' signature net cycles tabled → AreHeld files signature net cycles setting job
+    → AnswersLift files' words'' signature' table lifted → IsHeldSetting files' signature' setting → Read (Some files') table (Ok tabled.text) → lifted.text ≡ reply.text

@@ -1,11 +1,15 @@
 -- What the program wrote of an answer. Source: this project's own.
 use Rattle.std.specs.Prelude.{◌≡◌, ◌⊎◌, ◌<◌, ℕ, List, length, take, Option, Result, Ok, Err}
-use Rattle.std.specs.Io.KnownBytes.{Appends}
+use Rattle.std.specs.Io.KnownBytes.{Appends, Keeps}
 use Rattle.outcome.specs.Outcome.{Outcome}
+use Rattle.job_io.specs.Shelf.{Files}
 use Rattle.job_words.specs.declared.fault.Fault.{Fault}
 use Rattle.job_words.specs.Fault.{fault_line, fault_status}
+use Rattle.job_words.specs.Operands.{Word}
 use Rattle.job_words.specs.Stop.{IsMiss}
+use Rattle.answer_core.specs.Replies.{Rises}
 use Rattle.answer_core.specs.Reply.{Reply}
+use Rattle.gf_abs.specs.Answer.{Answer}
 
 -- an output that may come, or the line of a fault that may come, with its status
 abbrev pub IsText : Outcome Fault Reply → (missed : Type 0) → ℕ → List ℕ → Type 0
@@ -32,3 +36,20 @@ pub record IsAppended (Says : Reply → Type 0) (old new : Option (List ℕ)) : 
   pub reply : Reply
   pub says : Says reply
   pub appended : Appends old new reply.text
+
+-- ---- of a run, by what the shelf holds and counts before it and after it, and by what the sink got and counts
+
+-- the answer to the words was written whole, with this status
+abbrev pub WritesWhole : {S K : Type 0} → List Word → (held : S → Option Files) (misses : S → ℕ) (old new : S) → (status : ℕ) → (written : K → Option (List ℕ)) (before after : K) → Type 0
+WritesWhole words held misses old new status written before after = Writes (Answer words (held old)) (Rises misses old new) status (written before) (written after)
+
+-- the shelf failed and nothing was written, or the sink failed and less than the whole of the answer was
+abbrev pub OutsideFailed : {S K : Type 0} → List Word → (held : S → Option Files) (misses faults : S → ℕ) (old new : S) → (refusals : K → ℕ) (written : K → Option (List ℕ)) (before after : K) → Type 0
+OutsideFailed words held misses faults old new refusals written before after =
+    (Rises faults old new × Keeps (written before) (written after))
+    ⊎ WritesPart (Answer words (held old)) (Rises misses old new) (Rises refusals before after) (written before) (written after)
+
+-- where neither the shelf nor the sink failed, memory was wanted, or the answer or the fault's line was written whole with its status
+abbrev pub IsWrittenUnlessFailed : {S K : Type 0} → (faults : S → ℕ) (old new : S) → (refusals : K → ℕ) (written : K → Option (List ℕ)) (before after : K) → Result Reply Fault → (status : ℕ) → Type 0
+IsWrittenUnlessFailed faults old new refusals written before after outcome status =
+    (Rises faults old new → ⊥) → (Rises refusals before after → ⊥) → (status ≡ 5) ⊎ IsWritten outcome status (written before) (written after)

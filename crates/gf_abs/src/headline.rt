@@ -1,36 +1,31 @@
 //! What the program's answers say, for all words and held files. These functions do nothing: their contracts are proved of
 //! the definitions alone. `run` says that what it wrote is the answer.
-ghost use Rattle.std.specs.Prelude.{◌≡◌, ◌≢◌, ◌⊎◌, ◌↔◌, ◌≤◌, ◌<◌, ◌*◌, ◌^◌, [], codes, ℕ, List, Option, Some, Ok, Err};
+ghost use Rattle.std.specs.Prelude.{◌≡◌, ◌⊎◌, ◌↔◌, [], codes, ℕ, List, Option, Some, Ok, Err};
 ghost use Rattle.outcome.specs.Outcome.{Determined};
 ghost use Rattle.job_io.specs.Shelf.{Files};
 ghost use Rattle.net_words.specs.Binding.{BoundNet};
-ghost use Rattle.poly_mixed.specs.Polynomial.{Terms};
-ghost use Rattle.circuit_model.specs.Circuit.{Circuit, IsInput};
+ghost use Rattle.circuit_model.specs.Circuit.{Circuit};
 ghost use Rattle.circuit_model.specs.Job.{IsJob};
-ghost use Rattle.circuit_model.specs.Out.{IsOut};
 ghost use Rattle.circuit_model.specs.WellFormed.{IsWellFormed};
-ghost use Rattle.job_input.specs.File.{Read};
-ghost use Rattle.job_words.specs.Command.{Over, Trial, Verify, IsSpelled};
+ghost use Rattle.job_words.specs.Command.{Trial, IsSpelled};
 ghost use Rattle.job_words.specs.Fault.{fault_line, fault_status};
 ghost use Rattle.job_words.specs.OneLine.{IsOneLine};
 ghost use Rattle.job_words.specs.Operands.{Word};
 ghost use Rattle.job_words.specs.declared.fault.Fault.{Fault};
-ghost use Rattle.job_words.specs.declared.kind.Kind.{Kind};
 ghost use Rattle.job_input.specs.SettingValue.{SettingValue};
-ghost use Rattle.gf_abs.specs.Answer.{Answer};
-ghost use Rattle.gf_abs.specs.CertificateHeadline.{AnswersCertify, AnswersUpgrade, AnswersVerify, HoldLastSum, HoldOneJob, HoldTermsLeft, IsAccepted, IsRejected, PrintsHeldProof, terms_left};
-ghost use Rattle.gf_abs.specs.CheckHeadline.{AnswersCheck, ChecksHeld, PrintsHeldAcceptance, PrintsHeldRejection};
-ghost use Rattle.gf_abs.specs.ComposeHeadline.{AnswersCompose};
-ghost use Rattle.gf_abs.specs.EvalHeadline.{AnswersEval, PrintsHeldElement};
-ghost use Rattle.gf_abs.specs.Headline.{AnswersBits, AnswersAbstract, AnswersSame, ComparesHeld, PrintsHeldDifference};
-ghost use Rattle.answer_core.specs.Printed.{IsTaken, AreHeld, PrintsHeld, PrintsHeldInBits, IsInItsBits, IsInItsWords, HasOutput, HasOutputInBits, AreOneFunction};
-ghost use Rattle.gf_abs.specs.IsoHeadline.{AnswersIso, PrintsImages};
-ghost use Rattle.gf_abs.specs.MakeHeadline.{AnswersMake};
-ghost use Rattle.answer_makers.specs.Made.{HoldKind, HoldMade};
-ghost use Rattle.answer_core.specs.Reply.{Reply, polynomial_line};
-ghost use Rattle.gf_abs.specs.TableHeadline.{AnswersLift, AnswersTable, IsHeldSetting, PrintsHeldLift, PrintsHeldTable};
-ghost use Rattle.gf_abs.specs.TrialHeadline.{AnswersTrial, IsTrialFault, PrintsTrial, RefusesTrial};
 ghost use Rattle.answer_core.specs.Abstraction.{taken_circuit};
+ghost use Rattle.answer_core.specs.Printed.{IsTaken, AreHeld, PrintsHeld, PrintsHeldInBits, IsInItsBits, IsInItsWords, HasOutput, HasOutputInBits};
+ghost use Rattle.answer_core.specs.Reply.{Reply};
+ghost use Rattle.gf_abs.specs.Answer.{Answer};
+ghost use Rattle.gf_abs.specs.CertificateHeadline.{AnswersTermsLeft, CertificatesAreAccepted, EachVerify, EachVerifyReply, HoldLastSum, HoldTermsLeft, IsAccepted, IsRejected, PrintsHeldProof, UpgradesHaveTheSameReply};
+ghost use Rattle.gf_abs.specs.CheckHeadline.{AnswersCheck, ChecksHeld, EachCheckReply, PrintsHeldAcceptance, PrintsHeldRejection};
+ghost use Rattle.gf_abs.specs.ComposeHeadline.{ComposePrintsAsAbstract, EachComposeReply};
+ghost use Rattle.gf_abs.specs.EvalHeadline.{EachEvalReply, PrintsHeldElement};
+ghost use Rattle.gf_abs.specs.Headline.{AnswersBits, AnswersAbstract, AnswersSame, ComparesHeld, EachAbstractReply, EachBitsReply, EachSameReply, EqualBytesAreOneFunction, GiveOneJob, GiveOneOutput, GiveOutputs, HasOneReply, HasOneReplyOverPairs, IsTheOnlyLine, PrintsHeldDifference};
+ghost use Rattle.gf_abs.specs.IsoHeadline.{EachIsoReply, PrintsImages};
+ghost use Rattle.gf_abs.specs.MakeHeadline.{MadeNetlistsCompute};
+ghost use Rattle.gf_abs.specs.TableHeadline.{EachLiftReply, EachTableReply, PrintsHeldLift, PrintsHeldTable, TablesAreLiftedToAbstract};
+ghost use Rattle.gf_abs.specs.TrialHeadline.{AnswersTrial, IsTrialFault, PrintsTrial, RefusesTrial};
 
 /// Where the shelf tells what it holds, at most one answer or fault comes of the words.
 pub fn one_answer_or_fault()
@@ -50,8 +45,8 @@ pub fn each_fault_is_one_line()
     ensures line { (words : List Word) (held : Option Files) (fault : Fault) → Answer words held (Err fault) → IsOneLine (fault_line fault) }
 {}
 
-/// The circuit of a signature's text and of all cycles of a netlist's text is well-formed, so that it has exactly one output
-/// at each input.
+/// The circuit of a signature's text and of all cycles of a netlist's text, or a simpler one, is well-formed, so that it has exactly one
+/// output at each input.
 pub fn each_taken_circuit_is_well_formed()
     ensures { (setting : SettingValue) (circuit : BoundNet) → IsTaken setting circuit → IsWellFormed (taken_circuit setting circuit) }
 {}
@@ -61,151 +56,157 @@ pub fn each_taken_circuit_is_well_formed()
 /// output" of the laws that follow.
 pub fn held_files_give_one_job()
     ensures job { (files : Files) (signature net : Word) (cycles : ℕ) (setting : SettingValue) (job : Circuit) → AreHeld files signature net cycles setting job → IsJob job }
-    ensures one { (files : Files) (signature net : Word) (cycles : ℕ) (setting other : SettingValue) (job second : Circuit) → AreHeld files signature net cycles setting job → AreHeld files signature net cycles other second → (setting ≡ other) × (job ≡ second) }
-    ensures output { (files : Files) (signature net : Word) (cycles : ℕ) (setting : SettingValue) (job : Circuit) (xs : List ℕ) → AreHeld files signature net cycles setting job → IsInput job xs → (e : ℕ) × IsOut job xs e × (e < 2 ^ job.k) }
-    ensures one_output { (files : Files) (signature net : Word) (cycles : ℕ) (setting : SettingValue) (job : Circuit) (xs : List ℕ) (e other : ℕ) → AreHeld files signature net cycles setting job → IsOut job xs e → IsOut job xs other → e ≡ other }
+    ensures one { (files : Files) (signature net : Word) (cycles : ℕ) → GiveOneJob files signature net cycles }
+    ensures output { (files : Files) (signature net : Word) (cycles : ℕ) → GiveOutputs files signature net cycles }
+    ensures one_output { (files : Files) (signature net : Word) (cycles : ℕ) → GiveOneOutput files signature net cycles }
 {}
 
 /// What `abstract` prints is the polynomial of the output of the job in the files, over the cycles of the words: it is reduced, no bit and no other word
 /// stands in it, and at each point it has the output word's element at the point's elements.
 pub fn abstract_prints_the_output()
-    ensures { (files : Files) (words : List Word) (signature net : Word) (cycles : ℕ) (reply : Reply) → AnswersAbstract files words signature net cycles reply → PrintsHeld files signature net cycles reply }
+    ensures { EachAbstractReply PrintsHeld }
 {}
 
 /// What `bits` prints is the polynomial of the output in the bits of the words: it is reduced, nothing else stands in it, and
 /// wherever these are the bits of an input it has the output's value there.
 pub fn bits_print_the_output()
-    ensures { (files : Files) (words : List Word) (signature net : Word) (cycles : ℕ) (reply : Reply) → AnswersBits files words signature net cycles reply → PrintsHeldInBits files signature net cycles reply }
+    ensures { EachBitsReply PrintsHeldInBits }
 {}
 
 /// The bytes that `bits` prints are the line of no other polynomial: of the reduced polynomials in the bits of the job's words
 /// alone, they are that of exactly those that have the output's value at all bits of each input.
 pub fn bits_are_the_only_line()
-    ensures { (files : Files) (words : List Word) (signature net : Word) (cycles : ℕ) (reply : Reply) (setting : SettingValue) (job : Circuit) (ts : Terms) → AnswersBits files words signature net cycles reply → AreHeld files signature net cycles setting job → IsInItsBits setting job ts → reply.text ≡ polynomial_line setting ts ↔ HasOutputInBits setting job ts }
+    ensures { IsTheOnlyLine AnswersBits IsInItsBits HasOutputInBits }
 {}
 
-/// Two runs of `bits` over one signature and two netlists, whatever the bounds on terms and the cycles of each, print equal bytes
-/// exactly if the outputs are equal at every input.
+/// Two runs of `bits` over one signature and two netlists, whatever the bounds on terms and the cycles of each, and with `--simplify` or
+/// without it, print equal bytes exactly if the outputs are equal at every input.
 pub fn equal_bits_exactly_if_equal_functions()
-    ensures { (files files' : Files) (words words' : List Word) (signature signature' net net' : Word) (cycles cycles' : ℕ) (reply reply' : Reply) (setting : SettingValue) (job other : Circuit) → AnswersBits files words signature net cycles reply → AnswersBits files' words' signature' net' cycles' reply' → AreHeld files signature net cycles setting job → AreHeld files' signature' net' cycles' setting other → reply.text ≡ reply'.text ↔ AreOneFunction job other }
+    ensures { EqualBytesAreOneFunction AnswersBits }
 {}
 
 /// The printed bytes are the text of no other polynomial: of the reduced polynomials in the job's words alone, it is
 /// that of exactly those that have the output word's element at each point.
 pub fn bytes_are_the_only_text()
-    ensures { (files : Files) (words : List Word) (signature net : Word) (cycles : ℕ) (reply : Reply) (setting : SettingValue) (job : Circuit) (ts : Terms) → AnswersAbstract files words signature net cycles reply → AreHeld files signature net cycles setting job → IsInItsWords setting job ts → reply.text ≡ polynomial_line setting ts ↔ HasOutput setting job ts }
+    ensures { IsTheOnlyLine AnswersAbstract IsInItsWords HasOutput }
 {}
 
-/// Two runs over one signature and two netlists, whatever the bounds on terms and the cycles of each, print equal bytes
-/// exactly if the outputs are equal at every input.
+/// Two runs over one signature and two netlists, whatever the bounds on terms and the cycles of each, and with `--simplify` or without
+/// it, print equal bytes exactly if the outputs are equal at every input.
 pub fn equal_bytes_exactly_if_equal_functions()
-    ensures { (files files' : Files) (words words' : List Word) (signature signature' net net' : Word) (cycles cycles' : ℕ) (reply reply' : Reply) (setting : SettingValue) (job other : Circuit) → AnswersAbstract files words signature net cycles reply → AnswersAbstract files' words' signature' net' cycles' reply' → AreHeld files signature net cycles setting job → AreHeld files' signature' net' cycles' setting other → reply.text ≡ reply'.text ↔ AreOneFunction job other }
+    ensures { EqualBytesAreOneFunction AnswersAbstract }
+{}
+
+/// `bits`, `abstract`, `check` and `same` have one reply for the same files and number of cycles, where they have a reply: whatever the
+/// bound, and with `--simplify` or without it.
+pub fn equal_bytes_with_and_without_simplify()
+    ensures in_bits { HasOneReply AnswersBits }
+    ensures in_words { HasOneReply AnswersAbstract }
+    ensures of_check { HasOneReplyOverPairs AnswersCheck }
+    ensures of_same { HasOneReplyOverPairs AnswersSame }
 {}
 
 /// `same` prints that two netlists are one function, with status 0, exactly if the outputs of the two jobs in the files are
 /// equal at every input; otherwise it answers with status 1, where it gives a reply at all.
 pub fn same_exactly_if_equal_functions()
-    ensures status { (files : Files) (words : List Word) (signature net other : Word) (cycles : ℕ) (reply : Reply) → AnswersSame files words signature net other cycles reply → (reply.status ≡ 0) ⊎ (reply.status ≡ 1) }
-    ensures equal { (files : Files) (words : List Word) (signature net other : Word) (cycles : ℕ) (reply : Reply) → AnswersSame files words signature net other cycles reply → ComparesHeld files signature net other cycles reply }
-    ensures text { (files : Files) (words : List Word) (signature net other : Word) (cycles : ℕ) (reply : Reply) → AnswersSame files words signature net other cycles reply → reply.status ≡ 0 → reply.text ≡ codes "same\n" }
+    ensures status { EachSameReply (λ files signature net other cycles reply. (reply.status ≡ 0) ⊎ (reply.status ≡ 1)) }
+    ensures equal { EachSameReply ComparesHeld }
+    ensures text { EachSameReply (λ files signature net other cycles reply. reply.status ≡ 0 → reply.text ≡ codes "same\n") }
 {}
 
 /// With status 1 `same` prints an input at which the outputs of the two jobs in the files differ, and these outputs. Of all inputs where they differ it is
 /// the one with the fewest bits that are 1, and among several the one whose rising list of ranks is lexicographically first.
 pub fn same_prints_the_differing_input()
-    ensures { (files : Files) (words : List Word) (signature net other : Word) (cycles : ℕ) (reply : Reply) → AnswersSame files words signature net other cycles reply → reply.status ≡ 1 → PrintsHeldDifference files signature net other cycles reply }
+    ensures { EachSameReply (λ files signature net other cycles reply. reply.status ≡ 1 → PrintsHeldDifference files signature net other cycles reply) }
 {}
 
 /// `check` answers with status 0 exactly if the output of the job in the files is the value of their specification at every input;
 /// otherwise it answers with status 1, where it gives a reply at all.
 pub fn check_accepts_exactly_if_equal()
-    ensures status { (files : Files) (words : List Word) (signature net specification : Word) (cycles : ℕ) (reply : Reply) → AnswersCheck files words signature net specification cycles reply → (reply.status ≡ 0) ⊎ (reply.status ≡ 1) }
-    ensures equal { (files : Files) (words : List Word) (signature net specification : Word) (cycles : ℕ) (reply : Reply) → AnswersCheck files words signature net specification cycles reply → ChecksHeld files signature net specification cycles reply }
+    ensures status { EachCheckReply (λ files signature net specification cycles reply. (reply.status ≡ 0) ⊎ (reply.status ≡ 1)) }
+    ensures equal { EachCheckReply ChecksHeld }
 {}
 
 /// With status 0 `check` prints that the netlist is accepted, and then the polynomial of its output in words.
 pub fn check_prints_the_output()
-    ensures { (files : Files) (words : List Word) (signature net specification : Word) (cycles : ℕ) (reply : Reply) → AnswersCheck files words signature net specification cycles reply → reply.status ≡ 0 → PrintsHeldAcceptance files signature net specification cycles reply }
+    ensures { EachCheckReply (λ files signature net specification cycles reply. reply.status ≡ 0 → PrintsHeldAcceptance files signature net specification cycles reply) }
 {}
 
 /// With status 1 `check` prints that the netlist is rejected, the polynomial of its output in words, and an input at which the
 /// output is not the specification's value, with both. Of all such inputs it is the one with the fewest bits that are 1, and
 /// among several the one whose rising list of ranks is lexicographically first.
 pub fn check_prints_the_differing_input()
-    ensures { (files : Files) (words : List Word) (signature net specification : Word) (cycles : ℕ) (reply : Reply) → AnswersCheck files words signature net specification cycles reply → reply.status ≡ 1 → PrintsHeldRejection files signature net specification cycles reply }
+    ensures { EachCheckReply (λ files signature net specification cycles reply. reply.status ≡ 1 → PrintsHeldRejection files signature net specification cycles reply) }
 {}
 
 /// `eval` prints, with status 0, the element of the output of the job in the files at the values, which are elements of the field, one for each input,
 /// state and fed word.
 pub fn eval_prints_the_output()
-    ensures { (files : Files) (words : List Word) (signature net : Word) (values : List Word) (cycles : ℕ) (reply : Reply) → AnswersEval files words signature net values cycles reply → PrintsHeldElement files signature net values cycles reply }
+    ensures { EachEvalReply PrintsHeldElement }
 {}
 
 /// `table` prints the table of the output of the job in the files: a row for each input, with the output there.
 pub fn table_prints_the_outputs()
-    ensures { (files : Files) (words : List Word) (signature net : Word) (cycles : ℕ) (reply : Reply) → AnswersTable files words signature net cycles reply → PrintsHeldTable files signature net cycles reply }
+    ensures { EachTableReply PrintsHeldTable }
 {}
 
 /// `lift` prints the one reduced polynomial of the function of the table in its file.
 pub fn lift_prints_the_polynomial()
-    ensures { (files : Files) (words : List Word) (signature table : Word) (reply : Reply) → AnswersLift files words signature table reply → PrintsHeldLift files signature table reply }
+    ensures { EachLiftReply PrintsHeldLift }
 {}
 
 /// Where `lift` reads what `table` printed of a netlist, it prints the same bytes as `abstract` on the netlist, where both print.
 pub fn tables_are_lifted_to_what_abstract_prints()
-    ensures { (files files' : Files) (words words' words'' : List Word) (signature signature' net table : Word) (cycles : ℕ) (reply tabled lifted : Reply) (setting : SettingValue) (job : Circuit) → AnswersAbstract files words signature net cycles reply → AnswersTable files words' signature net cycles tabled → AreHeld files signature net cycles setting job
-        → AnswersLift files' words'' signature' table lifted → IsHeldSetting files' signature' setting → Read (Some files') table (Ok tabled.text) → lifted.text ≡ reply.text }
+    ensures { TablesAreLiftedToAbstract }
 {}
 
 /// `iso` prints, with status 0, the images of the numbers 2^i of a tower under the isomorphism to a field of polynomials that
 /// takes x and Y to the least roots of their polynomials.
 pub fn iso_prints_the_images()
-    ensures { (files : Files) (words : List Word) (signature other : Word) (reply : Reply) → AnswersIso files words signature other reply → PrintsImages files signature other reply }
+    ensures { EachIsoReply PrintsImages }
 {}
 
 /// Where `verify` answers with status 0, it prints that its certificate is valid, and a claim that is the polynomial of the output
 /// of the job in the files: reduced, in the job's words alone, and at each point with the output word's element at the point's
 /// elements. So it is, whatever the text of the certificate.
 pub fn verify_proves_the_output()
-    ensures { (files : Files) (words : List Word) (signature net certificate : Word) (cycles : ℕ) (reply : Reply) → AnswersVerify files words signature net certificate cycles reply → reply.status ≡ 0 → PrintsHeldProof files signature net cycles reply }
+    ensures { EachVerifyReply (λ files signature net certificate cycles reply. reply.status ≡ 0 → PrintsHeldProof files signature net cycles reply) }
 {}
 
 /// `verify` answers with status 0 exactly if the certificate in the held files is read whole, no running sum of it has more terms
 /// than the bound of the words, and the last one is empty; and with status 1 exactly if all this is so but that the last one has
 /// terms: then it prints how many.
 pub fn verify_answers_by_the_last_sum()
-    ensures valid { (files : Files) (words : List Word) (signature net certificate : Word) (bound cycles : ℕ) → IsSpelled words (Over signature (Verify net certificate bound cycles)) → IsAccepted files words ↔ HoldLastSum files signature net certificate bound cycles [] }
-    ensures invalid { (files : Files) (words : List Word) (signature net certificate : Word) (bound cycles : ℕ) → IsSpelled words (Over signature (Verify net certificate bound cycles)) → IsRejected files words ↔ HoldTermsLeft files signature net certificate bound cycles }
-    ensures text { (files : Files) (words : List Word) (signature net certificate : Word) (bound cycles : ℕ) (sum : Terms) → IsSpelled words (Over signature (Verify net certificate bound cycles)) → HoldLastSum files signature net certificate bound cycles sum → sum ≢ [] → Answer words (Some files) (Ok (terms_left sum)) }
+    ensures valid { EachVerify (λ files words signature net certificate bound cycles. IsAccepted files words ↔ HoldLastSum files signature net certificate bound cycles []) }
+    ensures invalid { EachVerify (λ files words signature net certificate bound cycles. IsRejected files words ↔ HoldTermsLeft files signature net certificate bound cycles) }
+    ensures text { (files : Files) (words : List Word) (signature net certificate : Word) (bound cycles : ℕ) → AnswersTermsLeft files words signature net certificate bound cycles }
 {}
 
 /// What `certify` prints under a bound on the terms of stages is accepted by `verify`, over the same signature and netlist, under each
 /// bound that is at least four times as large, where it is a file: it has at most 67,108,864 bytes.
 pub fn what_certify_prints_is_accepted()
-    ensures { (files others : Files) (words more : List Word) (signature net certificate : Word) (bound most cycles : ℕ) (reply : Reply) → AnswersCertify files words signature net bound cycles reply → HoldOneJob files others signature net → Read (Some others) certificate (Ok reply.text) → 4 * bound ≤ most
-        → IsSpelled more (Over signature (Verify net certificate most cycles)) → IsAccepted others more }
+    ensures { CertificatesAreAccepted }
 {}
 
 /// What `upgrade` prints has the reply of the certificate itself, over the same signature and netlist and whatever the bounds, where
 /// `verify` gives both a reply: the same verdict, with the same claim or as many terms that are left.
 pub fn upgrade_keeps_the_reply()
-    ensures { (files others : Files) (words before after : List Word) (signature net certificate upgraded : Word) (cycles : ℕ) (reply first second : Reply) → AnswersUpgrade files words signature net certificate cycles reply → HoldOneJob files others signature net → Read (Some others) upgraded (Ok reply.text)
-        → AnswersVerify files before signature net certificate cycles first → AnswersVerify others after signature net upgraded cycles second → first ≡ second }
+    ensures { UpgradesHaveTheSameReply }
 {}
 
 /// What `make` prints is read back as a netlist that binds to its signature, and the job of both, over the cycles of its kind, computes
 /// at every input what the kind does: the product of the two words, the product times the inverse of x to the k, the sum, or the
 /// square.
 pub fn what_make_prints_computes()
-    ensures { (files others : Files) (words : List Word) (kind : Kind) (signature net : Word) (reply : Reply) → AnswersMake files words kind signature reply → HoldMade files others signature net reply.text → HoldKind others signature net kind }
+    ensures { MadeNetlistsCompute }
 {}
 
 /// What `compose` prints from the polynomials of blocks is the polynomial of the output of the whole netlist, flattened: it is reduced, no bit and
 /// no other word stands in it, and at each point it has the output word's element at the point's elements. So where `abstract` prints of the
 /// same files, it prints the same bytes.
 pub fn compose_prints_the_output()
-    ensures prints { (files : Files) (words : List Word) (signature net : Word) (reply : Reply) → AnswersCompose files words signature net reply → PrintsHeld files signature net 0 reply }
-    ensures same { (files : Files) (words words' : List Word) (signature net : Word) (reply reply' : Reply) → AnswersCompose files words signature net reply → AnswersAbstract files words' signature net 0 reply' → reply.text ≡ reply'.text }
+    ensures prints { EachComposeReply (λ files signature net reply. PrintsHeld files signature net 0 reply) }
+    ensures same { ComposePrintsAsAbstract }
 {}
 
 /// `trial` prints, with status 0, two factors at which the multiplier that it turned gives another element than their product, with

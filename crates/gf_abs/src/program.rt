@@ -1,11 +1,11 @@
 //! The program as one function of its words, its files and its output, and what it printed.
 ghost use Rattle.std.specs.Prelude.{◌≡◌, ◌⊎◌, ◌≤◌, Some, map, string_bytes};
 ghost use Rattle.std.specs.Io.KnownBytes.{Keeps};
-ghost use Rattle.job_io.specs.Counts.{Rose};
 ghost use Rattle.job_io.specs.SureShelf.{sure_files, sure_misses};
+ghost use Rattle.answer_core.specs.Replies.{Rises};
 ghost use Rattle.gf_abs.specs.Answer.{Answer};
 ghost use Rattle.gf_abs.specs.RunHeadline.{AbstractPrints, BitsPrints, CertifyPrints, CheckAccepts, CheckRejects, ComposePrints, EvalPrints, IsoPrints, LiftPrints, MakePrints, SameAgrees, SameDiffers, TablePrints, TrialPrints, UpgradePrints, VerifyLeavesTerms, VerifyProves};
-ghost use Rattle.gf_abs.specs.Written.{IsText, IsWritten, Writes, WritesPart};
+ghost use Rattle.gf_abs.specs.Written.{IsText, IsWrittenUnlessFailed, OutsideFailed, WritesWhole};
 
 use crate::top::write_answer;
 use job_io::{Shelf, Sink, SureShelf, SureSink};
@@ -15,19 +15,15 @@ use std::alloc::Global;
 /// The result is its status: 0 printed or yes, 1 no, 2 refused, 3 a stage passed the bound, 4 the outside failed, 5 out of memory.
 pub fn run<S: Shelf, K: Sink>(alloc: Global, words: &[String], shelf: &mut S, sink: &mut K) -> u8
     // The whole of an answer is written, with its status, unless the outside or memory fails.
-    ensures answers { (result ≡ 4) ⊎ (result ≡ 5) ⊎ Writes (Answer (map string_bytes words.now) (S.held shelf.old))
-        (Rose (S.misses shelf.old) (S.misses shelf.new)) result (K.written sink.old) (K.written sink.new) }
+    ensures answers { (result ≡ 4) ⊎ (result ≡ 5) ⊎ WritesWhole (map string_bytes words.now) S.held S.misses shelf.old shelf.new result K.written sink.old sink.new }
     // At 4 the shelf failed and nothing was written, or the sink failed and less than the whole was.
-    ensures failed { result ≡ 4 → (Rose (S.faults shelf.old) (S.faults shelf.new) × Keeps (K.written sink.old) (K.written sink.new))
-        ⊎ WritesPart (Answer (map string_bytes words.now) (S.held shelf.old)) (Rose (S.misses shelf.old) (S.misses shelf.new))
-        (Rose (K.faults sink.old) (K.faults sink.new)) (K.written sink.old) (K.written sink.new) }
+    ensures failed { result ≡ 4 → OutsideFailed (map string_bytes words.now) S.held S.misses S.faults shelf.old shelf.new K.faults K.written sink.old sink.new }
     ensures no_memory { result ≡ 5 → Keeps (K.written sink.old) (K.written sink.new) }
 
     // Where the shelf tells what it holds, the answer or fault that comes of the words, of which there is one at most, was
     // written whole, unless the outside or memory fails.
     ensures complete { (files : _) (outcome : _) → S.held shelf.old ≡ Some files → Answer (map string_bytes words.now) (Some files) outcome
-        → (Rose (S.faults shelf.old) (S.faults shelf.new) → ⊥) → (Rose (K.faults sink.old) (K.faults sink.new) → ⊥)
-        → (result ≡ 5) ⊎ IsWritten outcome result (K.written sink.old) (K.written sink.new) }
+        → IsWrittenUnlessFailed S.faults shelf.old shelf.new K.faults K.written sink.old sink.new outcome result }
 
     // Where the shelf tells what it holds, this is what was printed of the job that the held files give, command by command, with
     // status 0 and with status 1.
@@ -61,7 +57,7 @@ pub fn run<S: Shelf, K: Sink>(alloc: Global, words: &[String], shelf: &mut S, si
 /// The same over a shelf and a sink that never fail: the status is that of the answer, or out of memory.
 pub fn run_surely(alloc: Global, words: &[String], shelf: &mut SureShelf, sink: &mut SureSink) -> u8
     ensures answers { (result ≡ 5) ⊎ ((text : _) × IsText (Answer (map string_bytes words.now) (Some (sure_files shelf.old)))
-        (Rose (sure_misses shelf.old) (sure_misses shelf.new)) result text) }
+        (Rises sure_misses shelf.old shelf.new) result text) }
     ensures held { sure_files shelf.new ≡ sure_files shelf.old }
     ensures counts { sure_misses shelf.old ≤ sure_misses shelf.new }
 {

@@ -2,12 +2,10 @@
 ghost use Rattle.std.specs.Prelude.{◌≡◌, ◌⊎◌, ◌≤◌, map, string_bytes, IfOk, IsErrOf};
 ghost use Rattle.std.specs.Io.KnownBytes.{Keeps};
 ghost use Rattle.job_io.specs.Counts.{Rose};
-ghost use Rattle.job_words.specs.Command.{Over, action_of, spelled_job};
-ghost use Rattle.job_words.specs.Stop.{GivesBy};
 ghost use Rattle.job_input.specs.Setting.{setting_value, AreSaid, IsReady};
-ghost use Rattle.gf_abs.specs.Answer.{ActionAnswer, SignedAnswer, JobAnswer, Answer};
-ghost use Rattle.answer_core.specs.Reply.{reply_of};
-ghost use Rattle.gf_abs.specs.Written.{IsText, Writes, WritesPart};
+ghost use Rattle.gf_abs.specs.Answer.{Answer, CommandAnswer, SignedTask, TaskAnswer, TaskOver, signed_with};
+ghost use Rattle.answer_core.specs.Replies.{Replies};
+ghost use Rattle.gf_abs.specs.Written.{IsText, OutsideFailed, WritesWhole};
 
 use answer_certificates::{certify, upgrade, verify};
 use answer_composition::compose;
@@ -27,8 +25,7 @@ use std::alloc::Global;
 fn answer<S: Shelf>(alloc: Global, words: &[String], shelf: &mut S) -> Result<Output, Stop>
     ensures held { S.held shelf.new ≡ S.held shelf.old }
     ensures never_fall { (S.faults shelf.old ≤ S.faults shelf.new) × (S.misses shelf.old ≤ S.misses shelf.new) }
-    ensures gives { GivesBy reply_of result (Answer (map string_bytes words.now) (S.held shelf.old))
-        (Rose (S.misses shelf.old) (S.misses shelf.new)) (Rose (S.faults shelf.old) (S.faults shelf.new)) }
+    ensures gives { Replies S.held S.misses S.faults shelf.old shelf.new result (Answer (map string_bytes words.now)) }
 {
     match read_words(words) {
         Some(command) => job_answer(alloc, &command, shelf),
@@ -40,8 +37,7 @@ fn answer<S: Shelf>(alloc: Global, words: &[String], shelf: &mut S) -> Result<Ou
 fn job_answer<S: Shelf>(alloc: Global, command: &Command, shelf: &mut S) -> Result<Output, Stop>
     ensures held { S.held shelf.new ≡ S.held shelf.old }
     ensures never_fall { (S.faults shelf.old ≤ S.faults shelf.new) × (S.misses shelf.old ≤ S.misses shelf.new) }
-    ensures gives { GivesBy reply_of result (JobAnswer (S.held shelf.old) (spelled_job command.now))
-        (Rose (S.misses shelf.old) (S.misses shelf.new)) (Rose (S.faults shelf.old) (S.faults shelf.new)) }
+    ensures gives { Replies S.held S.misses S.faults shelf.old shelf.new result (CommandAnswer command.now) }
 {
     match command {
         Command::Over { signature, task } => over_signature(alloc, signature, task, shelf),
@@ -58,8 +54,7 @@ fn over_signature<S: Shelf>(
 ) -> Result<Output, Stop>
     ensures held { S.held shelf.new ≡ S.held shelf.old }
     ensures never_fall { (S.faults shelf.old ≤ S.faults shelf.new) × (S.misses shelf.old ≤ S.misses shelf.new) }
-    ensures gives { GivesBy reply_of result (JobAnswer (S.held shelf.old) (Over file.now (action_of task.now)))
-        (Rose (S.misses shelf.old) (S.misses shelf.new)) (Rose (S.faults shelf.old) (S.faults shelf.new)) }
+    ensures gives { Replies S.held S.misses S.faults shelf.old shelf.new result (TaskOver file.now task.now) }
 {
     let Signed { signature, field } = match read_signed(alloc, shelf, file) {
         Ok(signed) => signed,
@@ -83,8 +78,7 @@ fn signed_answer<F: Field, S: Shelf>(
     requires { AreSaid signature }
     ensures held { S.held shelf.new ≡ S.held shelf.old }
     ensures never_fall { (S.faults shelf.old ≤ S.faults shelf.new) × (S.misses shelf.old ≤ S.misses shelf.new) }
-    ensures gives { GivesBy reply_of result (SignedAnswer (S.held shelf.old) (record { signature = signature; field = record { k = F.degree field.now; product = F.product field.now } }) (action_of task.now))
-        (Rose (S.misses shelf.old) (S.misses shelf.new)) (Rose (S.faults shelf.old) (S.faults shelf.new)) }
+    ensures gives { Replies S.held S.misses S.faults shelf.old shelf.new result (SignedTask (signed_with (F.degree field.now) (F.product field.now) signature) task.now) }
 {
     match setting_over(alloc, field, signature) {
         Ok(setting) => task_answer(alloc, field, &setting, task, shelf),
@@ -103,8 +97,7 @@ fn task_answer<F: Field, S: Shelf>(
     requires { IsReady (F.degree field.now) (F.product field.now) setting.now }
     ensures held { S.held shelf.new ≡ S.held shelf.old }
     ensures never_fall { (S.faults shelf.old ≤ S.faults shelf.new) × (S.misses shelf.old ≤ S.misses shelf.new) }
-    ensures gives { GivesBy reply_of result (ActionAnswer (S.held shelf.old) (setting_value (F.degree field.now) (F.product field.now) setting.now) (action_of task.now))
-        (Rose (S.misses shelf.old) (S.misses shelf.new)) (Rose (S.faults shelf.old) (S.faults shelf.new)) }
+    ensures gives { Replies S.held S.misses S.faults shelf.old shelf.new result (TaskAnswer (setting_value (F.degree field.now) (F.product field.now) setting.now) task.now) }
 {
     match task {
         Task::Bits(words) => { bits::answer(alloc, field, setting, words, shelf) }
@@ -151,11 +144,8 @@ pub fn write_answer<S: Shelf, K: Sink>(
     shelf: &mut S,
     sink: &mut K,
 ) -> u8
-    ensures answers { (result ≡ 4) ⊎ (result ≡ 5) ⊎ Writes (Answer (map string_bytes words.now) (S.held shelf.old))
-        (Rose (S.misses shelf.old) (S.misses shelf.new)) result (K.written sink.old) (K.written sink.new) }
-    ensures failed { result ≡ 4 → (Rose (S.faults shelf.old) (S.faults shelf.new) × Keeps (K.written sink.old) (K.written sink.new))
-        ⊎ WritesPart (Answer (map string_bytes words.now) (S.held shelf.old)) (Rose (S.misses shelf.old) (S.misses shelf.new))
-        (Rose (K.faults sink.old) (K.faults sink.new)) (K.written sink.old) (K.written sink.new) }
+    ensures answers { (result ≡ 4) ⊎ (result ≡ 5) ⊎ WritesWhole (map string_bytes words.now) S.held S.misses shelf.old shelf.new result K.written sink.old sink.new }
+    ensures failed { result ≡ 4 → OutsideFailed (map string_bytes words.now) S.held S.misses S.faults shelf.old shelf.new K.faults K.written sink.old sink.new }
     ensures no_memory { result ≡ 5 → Keeps (K.written sink.old) (K.written sink.new) }
     ensures held { S.held shelf.new ≡ S.held shelf.old }
     ensures shelf_counts { (S.faults shelf.old ≤ S.faults shelf.new) × (S.misses shelf.old ≤ S.misses shelf.new) }

@@ -1,12 +1,10 @@
 -- The words that a text says of each block have names, no two the same; one is the output word, at most eight are others, and none is fed.
-use Rattle.std.proofs.Common.{◌≡◌, ◌≢◌, ◌⊎◌, ◌∙◌, ap, sym, refl, subst, inl, inr, ℕ, zero, suc, List, [], ◌∷◌, ◌++◌, length, not, Bool, true, false, Option, None, Some, Result, Ok, Err, arith}
-use Rattle.std.specs.Prelude.{slice_get, IsTrue, if◌then◌else◌}
+use Rattle.std.proofs.Common.{◌≡◌, ◌≢◌, ◌∙◌, ap, sym, refl, subst, inl, inr, ℕ, zero, suc, List, [], ◌∷◌, not, Bool, true, false, Option, None, Some, Result, Ok, Err, arith}
+use Rattle.std.specs.Prelude.{IsTrue, if◌then◌else◌}
 use Rattle.std.specs.List.{list_any}
 use Rattle.std.specs.Str.{bytes_eq}
-use Rattle.std.proofs.lemmas.Bool.{true≢false}
-use Rattle.std.proofs.lemmas.Slice.Eq.{bytes_eq-Decides}
 use Rattle.lists.specs.Lists.{Has}
-use Rattle.lists.specs.laws.HasLaws.{Has_cases, any_has, one_of}
+use Rattle.lists.specs.laws.HasLaws.{Has_cases, one_of}
 use Rattle.outcome.proofs.StepLemmas.{with_value_ok}
 use Rattle.text_core.specs.Names.{IsName}
 use Rattle.net_words.specs.Roles.{is_output, same_role}
@@ -28,38 +26,12 @@ use Rattle.net_signature.specs.declared.fault.SigFault.{SigFault}
 use Rattle.net_signature.specs.declared.fault.SigFault.TheVariants.{NameTwice, NoOutput}
 use Rattle.net_signature.proofs.FewLemmas.{word_taken, few_more, count_some}
 use Rattle.job_input.specs.Setting.{AreBlockWords}
+use Rattle.net_signature.proofs.NamesLemmas.{one_more}
 
 -- ---- one more word
 
 abbrev same_name : WordText → WordText → Bool
 same_name word other = bytes_eq other.name word.name
-
--- the place of a word of the longer list: one before, or the last
-place : (word : WordText) (ws : List WordText) (w : WordText) (k : ℕ) → slice_get (ws ++ word ∷ []) k ≡ Some w → (slice_get ws k ≡ Some w) ⊎ ((k ≡ length ws) × (w ≡ word))
-place word [] w zero got = inr (refl, let same : word ≡ w = cc in sym same)
-place word [] w (suc k) got = absurd (cc)
-place word (u ∷ us) w zero got = inl got
-place word (u ∷ us) w (suc k) got = elim (place word us w k got) [ inl before ↦ inl before | inr last ↦ inr (ap suc last.0, last.1) ]
-
-module _ (words : List WordText) (word : WordText) (before : HaveNames words) (name : IsName word.name) (new : list_any (same_name word) words ≡ false) where
-  by_place : {k : ℕ} (w : WordText) → (slice_get words k ≡ Some w) ⊎ ((k ≡ length words) × (w ≡ word)) → IsName w.name
-  by_place {k = k} w (inl got) = before.names w (k, got)
-  by_place w (inr last) = let P : WordText → Type 0 = λ u. IsName u.name in subst P (sym last.1) name
-
-  fresh : (u : WordText) (k : ℕ) → slice_get words k ≡ Some u → u.name ≡ word.name → ⊥
-  fresh u k got same = true≢false (sym (any_has (same_name word) words u (k, got) ((bytes_eq-Decides u.name word.name).1 same)) ∙ new)
-
-  both : (i j : ℕ) (u v : WordText) → (slice_get words i ≡ Some u) ⊎ ((i ≡ length words) × (u ≡ word)) → (slice_get words j ≡ Some v) ⊎ ((j ≡ length words) × (v ≡ word)) → u.name ≡ v.name → i ≡ j
-  both i j u v (inl a) (inl b) same = before.apart i j u v a b same
-  both i j u v (inl a) (inr b) same = absurd (fresh u i a (same ∙ ap (λ (w : WordText). w.name) b.1))
-  both i j u v (inr a) (inl b) same = absurd (fresh v j b (sym same ∙ ap (λ (w : WordText). w.name) a.1))
-  both i j u v (inr a) (inr b) same = a.0 ∙ sym b.0
-
-  one_more : HaveNames (words ++ word ∷ [])
-  one_more = record {
-    names = λ w has. by_place w (place word words w has.0 has.1);
-    apart = λ i j u v at_i at_j same. both i j u v (place word words u i at_i) (place word words v j at_j) same;
-  }
 
 -- words of a block so far
 record AreWell (words : List WordText) : Type 0 where

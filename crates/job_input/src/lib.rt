@@ -3,7 +3,6 @@
 //! Each file is read, and then its text is taken; the first fault counts.
 #![tactic(auto)]
 
-mod base;
 mod bound;
 mod circuit;
 mod circuit_labels;
@@ -12,6 +11,7 @@ mod files;
 mod hierarchy;
 mod labels;
 mod laws;
+mod modulus;
 mod netlist;
 mod second;
 mod setting;
@@ -19,7 +19,6 @@ mod signed;
 mod specification;
 mod table_file;
 
-pub use base::base_field;
 pub use bound::BoundNetlist;
 pub use circuit::{read_circuit, read_netlist, unroll_netlist};
 pub use circuit_labels::circuit_labels_for;
@@ -30,6 +29,7 @@ pub use laws::{
     each_setting_is_sound, faults_keep_to_their_line, one_circuit_or_fault, one_netlist_or_fault,
     one_setting_or_fault, one_specification_or_fault, one_table_file_or_fault,
 };
+pub use modulus::field_of_modulus;
 pub use second::read_second;
 pub use setting::{Setting, bases_of, setting_over};
 pub use signed::{Signed, read_signed};

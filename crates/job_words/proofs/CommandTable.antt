@@ -1,5 +1,5 @@
 -- The table of commands, and that of the kinds of netlists that are made: what each name asks for, by the words behind it.
-use Rattle.std.proofs.Common.{ℕ, if◌then◌else◌, ◌==◌, Bool, true, false, drop, List, [], ◌∷◌, get_or, codes}
+use Rattle.std.proofs.Common.{ℕ, if◌then◌else◌, ◌==◌, Bool, true, false, drop, List, [], ◌∷◌, get_or, take, codes}
 use Rattle.text_core.specs.Numbers.{value_of}
 use Rattle.job_words.proofs.SpelledLemmas.{first_word, rest_of}
 use Rattle.job_words.specs.Operands.{Word}
@@ -28,6 +28,22 @@ terms_by default = set_by 116 default
 
 abbrev pub cycles_by : List Word → ℕ
 cycles_by = set_by 99 0
+
+-- whether a word has the third letter of `--simplify`
+abbrev pub is_simplify : Word → Bool
+is_simplify word = get_or word 2 0 == 115
+
+-- whether the options ask for a simpler circuit
+abbrev pub simple_by : List Word → Bool
+simple_by words =
+    if is_simplify (first_word words) then true else
+    if is_simplify (first_word (rest_of (rest_of words))) then true else is_simplify (first_word (rest_of (rest_of (rest_of (rest_of words)))))
+
+-- and the others
+abbrev pub others_by : List Word → List Word
+others_by words =
+    if is_simplify (first_word words) then rest_of words else
+    if is_simplify (first_word (rest_of (rest_of words))) then first_word words ∷ first_word (rest_of words) ∷ rest_of (rest_of (rest_of words)) else take 4 words
 
 -- what stands in the row of this name, or else in none
 abbrev pub row : {A : Type 0} → List (Word × A) → Word → A → A
@@ -69,10 +85,10 @@ kind_at name = row kind_rows name kinds.Digit
 -- the commands by their names: what the words behind the name ask for
 abbrev pub command_rows : List (Word × (List Word → Job))
 command_rows =
-    (codes "bits", over_first (λ net rest. Bits net (terms_by 65536 rest) (cycles_by rest)))
-    ∷ (codes "abstract", over_first (λ net rest. Abstract net (terms_by 65536 rest) (cycles_by rest)))
-    ∷ (codes "check", over_second (λ net other rest. Check net other (terms_by 65536 rest) (cycles_by rest)))
-    ∷ (codes "same", over_second (λ net other rest. Same net other (terms_by 65536 rest) (cycles_by rest)))
+    (codes "bits", over_first (λ net rest. Bits net (terms_by 65536 (others_by rest)) (cycles_by (others_by rest)) (simple_by rest)))
+    ∷ (codes "abstract", over_first (λ net rest. Abstract net (terms_by 65536 (others_by rest)) (cycles_by (others_by rest)) (simple_by rest)))
+    ∷ (codes "check", over_second (λ net other rest. Check net other (terms_by 65536 (others_by rest)) (cycles_by (others_by rest)) (simple_by rest)))
+    ∷ (codes "same", over_second (λ net other rest. Same net other (terms_by 65536 (others_by rest)) (cycles_by (others_by rest)) (simple_by rest)))
     ∷ (codes "eval", over_first (λ net rest. Eval net (before_options rest) (cycles_by (from_options rest))))
     ∷ (codes "iso", over_first (λ other rest. Iso other))
     ∷ (codes "lift", over_first (λ file rest. Lift file))

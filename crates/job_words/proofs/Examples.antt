@@ -1,5 +1,5 @@
 -- Small worked examples of the definitions of specs/, which the check computes: lines of faults, words of the command line.
-use Rattle.std.proofs.Common.{◌≡◌, ◌≢◌, ℕ, zero, suc, ◌<◌, ◌≤◌, [], ◌∷◌, codes, get_or, slice_index, inl, inr, refl, arith, true}
+use Rattle.std.proofs.Common.{◌≡◌, ◌≢◌, ℕ, zero, suc, ◌<◌, ◌≤◌, [], ◌∷◌, codes, get_or, slice_index, inl, inr, refl, arith, true, false}
 use Rattle.std.specs.Fmt.{digits}
 use Rattle.text_core.specs.Numbers.{IsDigit}
 use Rattle.poly_mixed.specs.declared.stage.Stage.TheVariants as stages
@@ -7,7 +7,7 @@ use Rattle.job_words.specs.Command.{Bits, Abstract, Same, Iso, Over, IsSpelled}
 use Rattle.job_words.specs.Fault.{fault_line, fault_status}
 use Rattle.job_words.specs.OneLine.{IsOneLine, repeated}
 use Rattle.job_words.specs.Operands.{IsOperand, is_aiger, is_verilog}
-use Rattle.job_words.specs.Options.{AreStageOptions}
+use Rattle.job_words.specs.Options.{AreCircuitOptions}
 use Rattle.job_words.specs.StageFault.{stage_text}
 use Rattle.job_words.specs.declared.fault.Fault.{Fault}
 use Rattle.job_words.specs.declared.fault.Fault.TheVariants as faults
@@ -62,11 +62,11 @@ operand_n = record { not_empty = λ e. absurd (cc); no_option = refl; plain = pl
     plain zero d h = (omega arith, λ e. absurd (omega arith))
     plain (suc k) d h = absurd (omega arith)
 
-no_options : AreStageOptions [] 65536 0
-no_options = record { of_terms = []; of_cycles = []; words_are = inl refl; terms_set = inl (refl, refl); cycles_set = inl (refl, refl) }
+no_options : AreCircuitOptions [] 65536 0 false
+no_options = record { of_terms = []; of_cycles = []; of_simplify = []; words_are = inl ([], refl, inl refl); terms_set = inl (refl, refl); cycles_set = inl (refl, refl); simplify_set = inl (refl, refl) }
 
 -- `bits s n` is the command `bits` with the signature s, the netlist n, the bound 65,536 and no cycle but the first
-spelled_bits : IsSpelled (codes "bits" ∷ codes "s" ∷ codes "n" ∷ []) (Over (codes "s") (Bits (codes "n") 65536 0))
+spelled_bits : IsSpelled (codes "bits" ∷ codes "s" ∷ codes "n" ∷ []) (Over (codes "s") (Bits (codes "n") 65536 0 false))
 spelled_bits = record {
   rest = codes "s" ∷ codes "n" ∷ [];
   words_are = refl;
@@ -74,7 +74,7 @@ spelled_bits = record {
 }
 
 -- `same s n n` is the command `same` with the netlist n twice
-spelled_same : IsSpelled (codes "same" ∷ codes "s" ∷ codes "n" ∷ codes "n" ∷ []) (Over (codes "s") (Same (codes "n") (codes "n") 65536 0))
+spelled_same : IsSpelled (codes "same" ∷ codes "s" ∷ codes "n" ∷ codes "n" ∷ []) (Over (codes "s") (Same (codes "n") (codes "n") 65536 0 false))
 spelled_same = record {
   rest = codes "s" ∷ codes "n" ∷ codes "n" ∷ [];
   words_are = refl;
@@ -89,22 +89,24 @@ spelled_iso = record {
   follow = record { rest = []; words_are = refl; signature_is = operand_s; file_is = operand_n; follow = refl };
 }
 
--- `abstract s n --cycles 3 --terms 10` sets the bound 10 and 3 cycles
-spelled_abstract : IsSpelled (codes "abstract" ∷ codes "s" ∷ codes "n" ∷ codes "--cycles" ∷ codes "3" ∷ codes "--terms" ∷ codes "10" ∷ []) (Over (codes "s") (Abstract (codes "n") 10 3))
+-- `abstract s n --cycles 3 --simplify --terms 10` sets the bound 10 and 3 cycles, and asks for a simpler circuit
+spelled_abstract : IsSpelled (codes "abstract" ∷ codes "s" ∷ codes "n" ∷ codes "--cycles" ∷ codes "3" ∷ codes "--simplify" ∷ codes "--terms" ∷ codes "10" ∷ []) (Over (codes "s") (Abstract (codes "n") 10 3 true))
 spelled_abstract = record {
-  rest = codes "s" ∷ codes "n" ∷ codes "--cycles" ∷ codes "3" ∷ codes "--terms" ∷ codes "10" ∷ [];
+  rest = codes "s" ∷ codes "n" ∷ codes "--cycles" ∷ codes "3" ∷ codes "--simplify" ∷ codes "--terms" ∷ codes "10" ∷ [];
   words_are = refl;
   follow = record {
-    rest = codes "--cycles" ∷ codes "3" ∷ codes "--terms" ∷ codes "10" ∷ [];
+    rest = codes "--cycles" ∷ codes "3" ∷ codes "--simplify" ∷ codes "--terms" ∷ codes "10" ∷ [];
     words_are = refl;
     signature_is = operand_s;
     file_is = operand_n;
     follow = record {
       of_terms = codes "--terms" ∷ codes "10" ∷ [];
       of_cycles = codes "--cycles" ∷ codes "3" ∷ [];
-      words_are = inr refl;
+      of_simplify = codes "--simplify" ∷ [];
+      words_are = inr (inl (codes "--simplify" ∷ codes "--terms" ∷ codes "10" ∷ [], refl, inr refl));
       terms_set = inr (codes "10", refl, record { decimal = ((omega arith, each), refl); no_zero = λ e. absurd (omega arith); some = omega arith; most = omega arith });
       cycles_set = inr (codes "3", refl, record { decimal = ((omega arith, digit), refl); no_zeros = λ e. absurd (omega arith); most = omega arith });
+      simplify_set = inr (refl, refl);
     };
   };
 }

@@ -1,6 +1,7 @@
 pub mod WordLemmas
 pub mod SpelledLemmas
 pub mod OptionLemmas
+pub mod SimplifyLemmas
 pub mod ValueLemmas
 pub mod MadeWordsLemmas
 pub mod CommandTable

@@ -36,3 +36,24 @@ four_whole f (p ∷ q ∷ []) a b c d long short x y z w = absurd (omega arith)
 four_whole f (p ∷ q ∷ r ∷ []) a b c d long short x y z w = absurd (omega arith)
 four_whole f (p ∷ q ∷ r ∷ s ∷ []) a b c d long short x y z w = (λ i. f (sym x i) ∷ f (sym y i) ∷ f (sym z i) ∷ f (sym w i) ∷ [])
 four_whole f (p ∷ q ∷ r ∷ s ∷ t ∷ xs) a b c d long short x y z w = absurd (omega arith)
+
+pub one_whole : {A : Type 0} (f : A → List ℕ) (xs : List A) (a : A) → 1 ≤ length xs → length xs < 2 → a ≡ get_or xs 0 a → map f xs ≡ f a ∷ []
+one_whole f [] a long short x = absurd (omega arith)
+one_whole f (p ∷ []) a long short x = (λ i. f (sym x i) ∷ [])
+one_whole f (p ∷ q ∷ xs) a long short x = absurd (omega arith)
+
+pub three_whole : {A : Type 0} (f : A → List ℕ) (xs : List A) (a b c : A) → 3 ≤ length xs → length xs < 4 → a ≡ get_or xs 0 a → b ≡ get_or xs 1 b → c ≡ get_or xs 2 c → map f xs ≡ f a ∷ f b ∷ f c ∷ []
+three_whole f [] a b c long short x y z = absurd (omega arith)
+three_whole f (p ∷ []) a b c long short x y z = absurd (omega arith)
+three_whole f (p ∷ q ∷ []) a b c long short x y z = absurd (omega arith)
+three_whole f (p ∷ q ∷ r ∷ []) a b c long short x y z = (λ i. f (sym x i) ∷ f (sym y i) ∷ f (sym z i) ∷ [])
+three_whole f (p ∷ q ∷ r ∷ s ∷ xs) a b c long short x y z = absurd (omega arith)
+
+pub five_whole : {A : Type 0} (f : A → List ℕ) (xs : List A) (a b c d e : A) → 5 ≤ length xs → length xs < 6 → a ≡ get_or xs 0 a → b ≡ get_or xs 1 b → c ≡ get_or xs 2 c → d ≡ get_or xs 3 d → e ≡ get_or xs 4 e → map f xs ≡ f a ∷ f b ∷ f c ∷ f d ∷ f e ∷ []
+five_whole f [] a b c d e long short x y z w v = absurd (omega arith)
+five_whole f (p ∷ []) a b c d e long short x y z w v = absurd (omega arith)
+five_whole f (p ∷ q ∷ []) a b c d e long short x y z w v = absurd (omega arith)
+five_whole f (p ∷ q ∷ r ∷ []) a b c d e long short x y z w v = absurd (omega arith)
+five_whole f (p ∷ q ∷ r ∷ s ∷ []) a b c d e long short x y z w v = absurd (omega arith)
+five_whole f (p ∷ q ∷ r ∷ s ∷ t ∷ []) a b c d e long short x y z w v = (λ i. f (sym x i) ∷ f (sym y i) ∷ f (sym z i) ∷ f (sym w i) ∷ f (sym v i) ∷ [])
+five_whole f (p ∷ q ∷ r ∷ s ∷ t ∷ u ∷ xs) a b c d e long short x y z w v = absurd (omega arith)

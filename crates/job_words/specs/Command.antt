@@ -1,5 +1,5 @@
 -- The commands, and the words that spell them. Source: this project's own, docs/COMMANDS.md.
-use Rattle.std.specs.Prelude.{◌≡◌, ℕ, List, ◌∷◌, codes, map, string_bytes}
+use Rattle.std.specs.Prelude.{◌≡◌, ℕ, Bool, List, ◌∷◌, codes, map, string_bytes}
 use Rattle.job_words.specs.declared.command.Command.{Command}
 use Rattle.job_words.specs.declared.command.Command.TheVariants as commands
 use Rattle.job_words.specs.declared.command.Task.{Task}
@@ -7,15 +7,15 @@ use Rattle.job_words.specs.declared.command.Task.TheVariants as tasks
 use Rattle.job_words.specs.declared.kind.Kind.{Kind}
 use Rattle.job_words.specs.MadeWords.{AreTrialWords, IsOfKind}
 use Rattle.job_words.specs.Operands.{Word}
-use Rattle.job_words.specs.Options.{AreNone, AreStageOptions, AreSumOptions, IsCyclesOption, IsTermsOption}
+use Rattle.job_words.specs.Options.{AreCircuitOptions, AreNone, AreStageOptions, AreSumOptions, IsCyclesOption, IsTermsOption}
 use Rattle.job_words.specs.Shapes.{IsOverBlif, IsOverFile, IsOverFiles, AreValues}
 
 -- what a command does over its signature
 pub data Action : Type 0 where
-  Bits : (net : Word) (terms cycles : ℕ) → Action
-  Abstract : (net : Word) (terms cycles : ℕ) → Action
-  Check : (net specification : Word) (terms cycles : ℕ) → Action
-  Same : (net other : Word) (terms cycles : ℕ) → Action
+  Bits : (net : Word) (terms cycles : ℕ) (simple : Bool) → Action
+  Abstract : (net : Word) (terms cycles : ℕ) (simple : Bool) → Action
+  Check : (net specification : Word) (terms cycles : ℕ) (simple : Bool) → Action
+  Same : (net other : Word) (terms cycles : ℕ) (simple : Bool) → Action
   Eval : (net : Word) (values : List Word) (cycles : ℕ) → Action
   Iso : (other : Word) → Action
   Lift : (table : Word) → Action
@@ -33,10 +33,10 @@ pub data Job : Type 0 where
 
 -- its name
 abbrev pub name_of : Action → Word
-name_of (Bits net terms cycles) = codes "bits"
-name_of (Abstract net terms cycles) = codes "abstract"
-name_of (Check net specification terms cycles) = codes "check"
-name_of (Same net other terms cycles) = codes "same"
+name_of (Bits net terms cycles simple) = codes "bits"
+name_of (Abstract net terms cycles simple) = codes "abstract"
+name_of (Check net specification terms cycles simple) = codes "check"
+name_of (Same net other terms cycles simple) = codes "same"
 name_of (Eval net values cycles) = codes "eval"
 name_of (Iso other) = codes "iso"
 name_of (Lift table) = codes "lift"
@@ -49,10 +49,10 @@ name_of (Compose net terms) = codes "compose"
 
 -- the words that follow its name
 abbrev pub AreOperandsOf : List Word → Word → Action → Type 0
-AreOperandsOf words signature (Bits net terms cycles) = IsOverFile (λ rest. AreStageOptions rest terms cycles) words signature net
-AreOperandsOf words signature (Abstract net terms cycles) = IsOverFile (λ rest. AreStageOptions rest terms cycles) words signature net
-AreOperandsOf words signature (Check net specification terms cycles) = IsOverFiles (λ rest. AreStageOptions rest terms cycles) words signature net specification
-AreOperandsOf words signature (Same net other terms cycles) = IsOverFiles (λ rest. AreStageOptions rest terms cycles) words signature net other
+AreOperandsOf words signature (Bits net terms cycles simple) = IsOverFile (λ rest. AreCircuitOptions rest terms cycles simple) words signature net
+AreOperandsOf words signature (Abstract net terms cycles simple) = IsOverFile (λ rest. AreCircuitOptions rest terms cycles simple) words signature net
+AreOperandsOf words signature (Check net specification terms cycles simple) = IsOverFiles (λ rest. AreCircuitOptions rest terms cycles simple) words signature net specification
+AreOperandsOf words signature (Same net other terms cycles simple) = IsOverFiles (λ rest. AreCircuitOptions rest terms cycles simple) words signature net other
 AreOperandsOf words signature (Eval net values cycles) = IsOverFile (λ rest. AreValues rest values cycles) words signature net
 AreOperandsOf words signature (Iso other) = IsOverFile AreNone words signature other
 AreOperandsOf words signature (Lift table) = IsOverFile AreNone words signature table
@@ -76,10 +76,10 @@ IsSpelled words (Trial number modulus terms) = IsNamed (codes "trial") (λ rest.
 
 -- what the program's task is, by its operands
 abbrev pub action_of : Task → Action
-action_of (tasks.Bits words) = Bits words.net.now words.terms words.cycles
-action_of (tasks.Abstract words) = Abstract words.net.now words.terms words.cycles
-action_of (tasks.Check words) = Check words.net.now words.other.now words.terms words.cycles
-action_of (tasks.Same words) = Same words.net.now words.other.now words.terms words.cycles
+action_of (tasks.Bits words) = Bits words.net.now words.terms words.cycles words.simplify
+action_of (tasks.Abstract words) = Abstract words.net.now words.terms words.cycles words.simplify
+action_of (tasks.Check words) = Check words.net.now words.other.now words.terms words.cycles words.simplify
+action_of (tasks.Same words) = Same words.net.now words.other.now words.terms words.cycles words.simplify
 action_of (tasks.Eval words) = Eval words.net.now (map string_bytes words.values.now) words.cycles
 action_of (tasks.Iso other) = Iso other.now
 action_of (tasks.Lift table) = Lift table.now

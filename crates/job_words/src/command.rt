@@ -6,10 +6,13 @@ ghost use Rattle.job_words.specs.private.Groups.{IsLater, IsOfTables, IsOverSign
 use crate::kind::Kind;
 use crate::made_words::{TrialWords, of_kind, of_numbers};
 use crate::shapes::{
-    over_blif, over_certificate, over_cycles, over_file, over_files, over_net, over_pair,
-    over_values,
+    over_blif, over_certificate, over_circuit, over_circuits, over_cycles, over_file, over_files,
+    over_net, over_values,
 };
-use crate::words::{ComposeWords, CyclePairWords, CycleWords, EvalWords, NetWords, PairWords};
+use crate::words::{
+    ComposeWords, CyclePairWords, CycleWords, EvalWords, NetWords, PairWords, SimplifyPairWords,
+    SimplifyWords,
+};
 
 /// A command.
 #[derive(Clone, Copy)]
@@ -24,13 +27,13 @@ pub enum Command<'a> {
 #[derive(Clone, Copy)]
 pub enum Task<'a> {
     /// `bits`: prints the output word's polynomial in the input bits.
-    Bits(NetWords<'a>),
+    Bits(SimplifyWords<'a>),
     /// `abstract`: prints the output word's polynomial in the input words.
-    Abstract(NetWords<'a>),
+    Abstract(SimplifyWords<'a>),
     /// `check`: says whether a netlist computes its specification, or the input at which it does not.
-    Check(PairWords<'a>),
+    Check(SimplifyPairWords<'a>),
     /// `same`: says whether two netlists compute one function, or the input at which they are told apart.
-    Same(PairWords<'a>),
+    Same(SimplifyPairWords<'a>),
     /// `eval`: prints the output word's element where the input words have these.
     Eval(EvalWords<'a>),
     /// `iso`: prints the isomorphism from the tower of the signature of this file.
@@ -93,19 +96,19 @@ fn read_task<'a>(name: &str, rest: &'a [String]) -> Option<(&'a str, Task<'a>)>
     ensures none { IfNone result ((job : _) → IsOverSignature job → IsSpelled (name.now ∷ map string_bytes rest.now) job → ⊥) }
 {
     match name {
-        "bits" => match over_net(rest) {
+        "bits" => match over_circuit(rest) {
             Some((signature, words)) => Some((signature, Task::Bits(words))),
             None => None,
         },
-        "abstract" => match over_net(rest) {
+        "abstract" => match over_circuit(rest) {
             Some((signature, words)) => Some((signature, Task::Abstract(words))),
             None => None,
         },
-        "check" => match over_pair(rest) {
+        "check" => match over_circuits(rest) {
             Some((signature, words)) => Some((signature, Task::Check(words))),
             None => None,
         },
-        "same" => match over_pair(rest) {
+        "same" => match over_circuits(rest) {
             Some((signature, words)) => Some((signature, Task::Same(words))),
             None => None,
         },

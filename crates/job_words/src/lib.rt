@@ -37,4 +37,7 @@ pub use stage_fault::{StageFault, write_block_stage, write_stage};
 pub use stop::Stop;
 pub use table_text_fault::TableTextFault;
 pub use value_fault::ValueFault;
-pub use words::{ComposeWords, CyclePairWords, CycleWords, EvalWords, NetWords, PairWords};
+pub use words::{
+    ComposeWords, CyclePairWords, CycleWords, EvalWords, NetWords, PairWords, SimplifyPairWords,
+    SimplifyWords,
+};

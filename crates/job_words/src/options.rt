@@ -1,10 +1,19 @@
 //! Options: what stands behind the operands of a command.
-ghost use Rattle.std.specs.Prelude.{◌≤◌, [], ◌∷◌, map, string_bytes, IfSome, IfNone};
-ghost use Rattle.job_words.specs.Options.{AreNone, IsTermCount, IsTermsOption, IsCycleCount, IsCyclesOption, AreOptions};
+ghost use Rattle.std.specs.Prelude.{◌≤◌, [], ◌∷◌, true, map, string_bytes, IfSome, IfNone};
+ghost use Rattle.job_words.specs.Options.{AreNone, IsTermCount, IsTermsOption, IsCycleCount, IsCyclesOption, AreOptions, AreCircuitOptions};
 
 use text_core::read_decimal;
 
 const CYCLES: u32 = 0;
+
+// The option without a number.
+const SIMPLIFY: &str = "--simplify";
+
+/// The greatest bound on the terms of a stage.
+pub(crate) const STAGE_LIMIT: u32 = 262_144;
+
+/// The bound on the terms of a stage where no option sets it.
+pub(crate) const STAGE_TERMS: u32 = 65_536;
 
 /// Nothing, where there are no options.
 pub(crate) fn read_nothing(options: &[String]) -> Option<()>
@@ -92,6 +101,86 @@ fn both(terms: &str, cycles: &str, limit: u32) -> Option<(u32, u32)>
     }
 }
 
+/// The bound on the terms of a stage and the number of cycles that the options set, and whether they ask for a simpler circuit.
+pub(crate) fn read_circuit_options(options: &[String]) -> Option<(u32, u32, bool)>
+    ensures found { IfSome result (λ r. AreCircuitOptions (map string_bytes options.now) r.0 r.1 r.2) }
+    ensures none { IfNone result ((terms cycles simple : _) → AreCircuitOptions (map string_bytes options.now) terms cycles simple → ⊥) }
+    ensures few { IfSome result (λ r. r.1 ≤ 4096) }
+{
+    match read_options(options, STAGE_LIMIT, STAGE_TERMS) {
+        Some((terms, cycles)) => Some((terms, cycles, false)),
+        None => match read_simplify(options) {
+            Some((terms, cycles)) => Some((terms, cycles, true)),
+            None => None,
+        },
+    }
+}
+
+// The two numbers, where the options ask for a simpler circuit: `--simplify` stands before the others, between them, or behind.
+fn read_simplify(options: &[String]) -> Option<(u32, u32)>
+    ensures found { IfSome result (λ r. AreCircuitOptions (map string_bytes options.now) r.0 r.1 true) }
+    ensures none { IfNone result ((terms cycles : _) → AreCircuitOptions (map string_bytes options.now) terms cycles true → ⊥) }
+    ensures few { IfSome result (λ r. r.1 ≤ 4096) }
+{
+    match options {
+        [word] => of_simplify(word.as_str()),
+        [first, second, third] => of_three(first.as_str(), second.as_str(), third.as_str()),
+        [first, second, third, fourth, fifth] => of_five(
+            first.as_str(),
+            second.as_str(),
+            third.as_str(),
+            fourth.as_str(),
+            fifth.as_str(),
+        ),
+        _ => None,
+    }
+}
+
+// The same of one word.
+fn of_simplify(word: &str) -> Option<(u32, u32)>
+    ensures found { IfSome result (λ r. AreCircuitOptions (word.now ∷ []) r.0 r.1 true) }
+    ensures none { IfNone result ((terms cycles : _) → AreCircuitOptions (word.now ∷ []) terms cycles true → ⊥) }
+    ensures few { IfSome result (λ r. r.1 ≤ 4096) }
+{
+    if word == SIMPLIFY {
+        Some((STAGE_TERMS, CYCLES))
+    } else {
+        None
+    }
+}
+
+// The same of three words: those of one option with its number, and `--simplify` before or behind.
+fn of_three(first: &str, second: &str, third: &str) -> Option<(u32, u32)>
+    ensures found { IfSome result (λ r. AreCircuitOptions (first.now ∷ second.now ∷ third.now ∷ []) r.0 r.1 true) }
+    ensures none { IfNone result ((terms cycles : _) → AreCircuitOptions (first.now ∷ second.now ∷ third.now ∷ []) terms cycles true → ⊥) }
+    ensures few { IfSome result (λ r. r.1 ≤ 4096) }
+{
+    if first == SIMPLIFY {
+        of_option(second, third, STAGE_LIMIT, STAGE_TERMS)
+    } else if third == SIMPLIFY {
+        of_option(first, second, STAGE_LIMIT, STAGE_TERMS)
+    } else {
+        None
+    }
+}
+
+// The same of five words: those of two options with their numbers, and `--simplify` before, between or behind.
+fn of_five(first: &str, second: &str, third: &str, fourth: &str, fifth: &str) -> Option<(u32, u32)>
+    ensures found { IfSome result (λ r. AreCircuitOptions (first.now ∷ second.now ∷ third.now ∷ fourth.now ∷ fifth.now ∷ []) r.0 r.1 true) }
+    ensures none { IfNone result ((terms cycles : _) → AreCircuitOptions (first.now ∷ second.now ∷ third.now ∷ fourth.now ∷ fifth.now ∷ []) terms cycles true → ⊥) }
+    ensures few { IfSome result (λ r. r.1 ≤ 4096) }
+{
+    if first == SIMPLIFY {
+        of_two(second, third, fourth, fifth, STAGE_LIMIT, STAGE_TERMS)
+    } else if third == SIMPLIFY {
+        of_two(first, second, fourth, fifth, STAGE_LIMIT, STAGE_TERMS)
+    } else if fifth == SIMPLIFY {
+        of_two(first, second, third, fourth, STAGE_LIMIT, STAGE_TERMS)
+    } else {
+        None
+    }
+}
+
 /// The number of cycles that the options set, where there is no other option.
 pub(crate) fn read_cycles(options: &[String]) -> Option<u32>
     ensures found { IfSome result (λ cycles. IsCyclesOption (map string_bytes options.now) cycles) }
@@ -123,7 +212,7 @@ pub(crate) fn read_terms(options: &[String]) -> Option<u32>
     ensures none { IfNone result ((terms : _) → IsTermsOption 262144 65536 (map string_bytes options.now) terms → ⊥) }
 {
     match options {
-        [] => Some(65_536),
+        [] => Some(STAGE_TERMS),
         [name, number] => of_terms(name.as_str(), number.as_str()),
         _ => None,
     }
@@ -135,7 +224,7 @@ fn of_terms(name: &str, number: &str) -> Option<u32>
     ensures none { IfNone result ((terms : _) → IsTermsOption 262144 65536 (name.now ∷ number.now ∷ []) terms → ⊥) }
 {
     match name {
-        "--terms" => term_count(number, 262_144),
+        "--terms" => term_count(number, STAGE_LIMIT),
         _ => None,
     }
 }

@@ -1,18 +1,18 @@
 //! The shapes of words behind the name of a command: files, and what follows them.
 ghost use Rattle.std.specs.Prelude.{◌∷◌, map, string_bytes, IfSome, IfNone};
-ghost use Rattle.job_words.specs.Options.{AreNone, AreOptions, AreStageOptions, AreSumOptions, IsCyclesOption, IsTermsOption};
+ghost use Rattle.job_words.specs.Options.{AreCircuitOptions, AreNone, AreStageOptions, AreSumOptions, IsCyclesOption, IsTermsOption};
 ghost use Rattle.job_words.specs.Shapes.{IsOverBlif, IsOverFile, IsOverFiles, AreValues};
 ghost use Rattle.job_words.specs.private.Rest.{Anything, IsRest};
 
 use crate::operands::{is_blif, is_operand, read_values};
-use crate::options::{read_cycles, read_nothing, read_options, read_terms};
-use crate::words::{ComposeWords, CyclePairWords, CycleWords, EvalWords, NetWords, PairWords};
-
-// The greatest bound on the terms of a stage.
-const STAGE_LIMIT: u32 = 262_144;
-
-// The bound on the terms of a stage where no option sets it.
-const STAGE_TERMS: u32 = 65_536;
+use crate::options::{
+    STAGE_LIMIT, STAGE_TERMS, read_circuit_options, read_cycles, read_nothing, read_options,
+    read_terms,
+};
+use crate::words::{
+    ComposeWords, CyclePairWords, CycleWords, EvalWords, NetWords, PairWords, SimplifyPairWords,
+    SimplifyWords,
+};
 
 // The greatest bound on the terms of a running sum, which stands where no option sets it.
 const SUM_LIMIT: u32 = 1_048_576;
@@ -39,6 +39,28 @@ pub(crate) fn over_net<'a>(words: &'a [String]) -> Option<(&'a str, NetWords<'a>
     match file_and_rest(words) {
         Some((signature, net, rest)) => match read_options(rest, STAGE_LIMIT, STAGE_TERMS) {
             Some((terms, cycles)) => Some((signature, NetWords { net, terms, cycles })),
+            None => None,
+        },
+        None => None,
+    }
+}
+
+/// A signature, and a netlist with the options of stages and cycles and that of a simpler circuit.
+pub(crate) fn over_circuit<'a>(words: &'a [String]) -> Option<(&'a str, SimplifyWords<'a>)>
+    ensures found { IfSome result (λ r. IsOverFile (λ rest. AreCircuitOptions rest r.1.terms r.1.cycles r.1.simplify) (map string_bytes words.now) r.0.now r.1.net.now) }
+    ensures none { IfNone result ((signature net terms cycles simple : _) → IsOverFile (λ rest. AreCircuitOptions rest terms cycles simple) (map string_bytes words.now) signature net → ⊥) }
+{
+    match file_and_rest(words) {
+        Some((signature, net, rest)) => match read_circuit_options(rest) {
+            Some((terms, cycles, simplify)) => Some((
+                signature,
+                SimplifyWords {
+                    net,
+                    terms,
+                    cycles,
+                    simplify,
+                },
+            )),
             None => None,
         },
         None => None,
@@ -111,12 +133,27 @@ pub(crate) fn over_values<'a>(words: &'a [String]) -> Option<(&'a str, EvalWords
     }
 }
 
-/// A signature, and a netlist and another file with the options of stages and cycles.
-pub(crate) fn over_pair<'a>(words: &'a [String]) -> Option<(&'a str, PairWords<'a>)>
-    ensures found { IfSome result (λ r. IsOverFiles (λ rest. AreStageOptions rest r.1.terms r.1.cycles) (map string_bytes words.now) r.0.now r.1.net.now r.1.other.now) }
-    ensures none { IfNone result ((signature net other terms cycles : _) → IsOverFiles (λ rest. AreStageOptions rest terms cycles) (map string_bytes words.now) signature net other → ⊥) }
+/// A signature, and a netlist and another file with the options of stages and cycles and that of a simpler circuit.
+pub(crate) fn over_circuits<'a>(words: &'a [String]) -> Option<(&'a str, SimplifyPairWords<'a>)>
+    ensures found { IfSome result (λ r. IsOverFiles (λ rest. AreCircuitOptions rest r.1.terms r.1.cycles r.1.simplify) (map string_bytes words.now) r.0.now r.1.net.now r.1.other.now) }
+    ensures none { IfNone result ((signature net other terms cycles simple : _) → IsOverFiles (λ rest. AreCircuitOptions rest terms cycles simple) (map string_bytes words.now) signature net other → ⊥) }
 {
-    pair_within(words, STAGE_LIMIT, STAGE_TERMS)
+    match files_and_rest(words) {
+        Some((signature, net, other, rest)) => match read_circuit_options(rest) {
+            Some((terms, cycles, simplify)) => Some((
+                signature,
+                SimplifyPairWords {
+                    net,
+                    other,
+                    terms,
+                    cycles,
+                    simplify,
+                },
+            )),
+            None => None,
+        },
+        None => None,
+    }
 }
 
 /// A signature, and a netlist and a certificate with the options of running sums and cycles.
@@ -124,20 +161,8 @@ pub(crate) fn over_certificate<'a>(words: &'a [String]) -> Option<(&'a str, Pair
     ensures found { IfSome result (λ r. IsOverFiles (λ rest. AreSumOptions rest r.1.terms r.1.cycles) (map string_bytes words.now) r.0.now r.1.net.now r.1.other.now) }
     ensures none { IfNone result ((signature net other terms cycles : _) → IsOverFiles (λ rest. AreSumOptions rest terms cycles) (map string_bytes words.now) signature net other → ⊥) }
 {
-    pair_within(words, SUM_LIMIT, SUM_LIMIT)
-}
-
-// The same with a bound on terms of this limit, which stands by default at this number.
-fn pair_within<'a>(
-    words: &'a [String],
-    limit: u32,
-    default: u32,
-) -> Option<(&'a str, PairWords<'a>)>
-    ensures found { IfSome result (λ r. IsOverFiles (λ rest. AreOptions limit default rest r.1.terms r.1.cycles) (map string_bytes words.now) r.0.now r.1.net.now r.1.other.now) }
-    ensures none { IfNone result ((signature net other terms cycles : _) → IsOverFiles (λ rest. AreOptions limit default rest terms cycles) (map string_bytes words.now) signature net other → ⊥) }
-{
     match files_and_rest(words) {
-        Some((signature, net, other, rest)) => match read_options(rest, limit, default) {
+        Some((signature, net, other, rest)) => match read_options(rest, SUM_LIMIT, SUM_LIMIT) {
             Some((terms, cycles)) => Some((
                 signature,
                 PairWords {

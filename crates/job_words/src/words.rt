@@ -13,6 +13,20 @@ pub struct NetWords<'a> {
     ghost few: { cycles ≤ 4096 },
 }
 
+/// The words of a command over one netlist whose circuit may be made simpler.
+#[derive(Clone, Copy)]
+pub struct SimplifyWords<'a> {
+    /// The name of the netlist's file, whose ending tells its form.
+    pub net: &'a str,
+    /// The most terms that a stage may have, 1 to 262,144.
+    pub terms: u32,
+    /// How many cycles come after the first, 0 to 4,096.
+    pub cycles: u32,
+    /// Whether the circuit of all cycles is made simpler.
+    pub simplify: bool,
+    ghost few: { cycles ≤ 4096 },
+}
+
 /// The words of a command over one netlist that has no stages.
 #[derive(Clone, Copy)]
 pub struct CycleWords<'a> {
@@ -23,14 +37,30 @@ pub struct CycleWords<'a> {
     ghost few: { cycles ≤ 4096 },
 }
 
-/// The words of a command over a netlist and a second file.
+/// The words of a command over a netlist and a second file, whose circuits may be made simpler.
+#[derive(Clone, Copy)]
+pub struct SimplifyPairWords<'a> {
+    /// The name of the netlist's file, whose ending tells its form.
+    pub net: &'a str,
+    /// The name of the second file.
+    pub other: &'a str,
+    /// The most terms that a stage may have, 1 to 262,144.
+    pub terms: u32,
+    /// How many cycles come after the first, 0 to 4,096.
+    pub cycles: u32,
+    /// Whether the circuit of all cycles is made simpler.
+    pub simplify: bool,
+    ghost few: { cycles ≤ 4096 },
+}
+
+/// The words of a command over a netlist and a certificate.
 #[derive(Clone, Copy)]
 pub struct PairWords<'a> {
     /// The name of the netlist's file, whose ending tells its form.
     pub net: &'a str,
     /// The name of the second file.
     pub other: &'a str,
-    /// The most terms that a stage, or the running sum of a certificate, may have.
+    /// The most terms that a running sum may have, 1 to 1,048,576.
     pub terms: u32,
     /// How many cycles come after the first, 0 to 4,096.
     pub cycles: u32,

@@ -1,8 +1,8 @@
 use Rattle.job_io.specs.Counts.{Rose}
 use Rattle.job_words.proofs.StepLemmas.{after}
-use Rattle.job_input.specs.CircuitOf.{CircuitIn}
 use Rattle.job_input.specs.Setting.{setting_value}
 use Rattle.answer_core.specs.Reply.{reply_of}
+use Rattle.answer_core.specs.Simpler.{SimplerIn}
 use Rattle.answer_polynomials.specs.Abstract.{AbstractReply}
 use Rattle.answer_polynomials.proofs.abstracting.answer.Goals as goal
 
@@ -13,7 +13,7 @@ pub returns-in-Ok-clause-gives : goal.returns-in-Ok-clause-gives
 returns-in-Ok-clause-gives g c =
     let setting = setting_value (g.F.Ring.degree c.args.field.now) (g.F.Ring.product c.args.field.now) c.args.setting.now in
     let words = c.args.words.now in
-    let missed = Rose (g.S.Shelf.misses c.args.shelf.now) (g.S.Shelf.misses c.read_circuit.new.shelf) in
-    let failed = Rose (g.S.Shelf.faults c.args.shelf.now) (g.S.Shelf.faults c.read_circuit.new.shelf) in
-    after reply_of c.reply.result (CircuitIn (g.S.Shelf.held c.args.shelf.now) c.args.setting.now.signature words.net.now words.cycles) (λ circuit. AbstractReply setting circuit words.terms) c.in-Ok.circuit
+    let missed = Rose (g.S.Shelf.misses c.args.shelf.now) (g.S.Shelf.misses c.read_simpler.new.shelf) in
+    let failed = Rose (g.S.Shelf.faults c.args.shelf.now) (g.S.Shelf.faults c.read_simpler.new.shelf) in
+    after reply_of c.reply.result (SimplerIn (g.S.Shelf.held c.args.shelf.now) c.args.setting.now.signature words.net.now words.cycles words.simplify) (λ circuit. AbstractReply setting circuit words.terms) c.in-Ok.circuit
     missed failed ⊥ ⊥ c.in-Ok.ensures.gives (λ m. absurd m) (λ f. absurd f) c.reply.ensures

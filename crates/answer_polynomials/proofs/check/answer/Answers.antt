@@ -21,6 +21,6 @@ returns-in-Ok-clause-gives g c =
     let f0 = g.S.Shelf.faults c.args.shelf.now in
     let f1 = g.S.Shelf.faults c.read_netlist.new.shelf in
     let f2 = g.S.Shelf.faults c.over.new.shelf in
-    after reply_of c.over.result (NetlistIn held c.args.setting.now.signature words.net.now) (λ netlist. CheckOver held setting words.net.now netlist words.other.now words.terms words.cycles) c.in-Ok.netlist
+    after reply_of c.over.result (NetlistIn held c.args.setting.now.signature words.net.now) (λ netlist. CheckOver held setting words.net.now netlist words.other.now words.terms words.cycles words.simplify) c.in-Ok.netlist
     (Rose m0 m2) (Rose f0 f2) (Rose m1 m2) (Rose f1 f2) c.in-Ok.ensures.gives
     (rose_earlier m0 m1 m2 c.read_netlist.ensures.never_fall.1) (rose_earlier f0 f1 f2 c.read_netlist.ensures.never_fall.0) (rw c.read_netlist.ensures.held at c.over.ensures.gives)

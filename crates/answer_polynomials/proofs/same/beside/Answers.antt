@@ -14,5 +14,5 @@ returns-in-Ok-clause-gives g c =
     let setting = setting_value (g.F.Ring.degree c.args.field.now) (g.F.Ring.product c.args.field.now) c.args.setting.now in
     let missed = Rose (g.S.Shelf.misses c.args.shelf.now) (g.S.Shelf.misses c.read_netlist.new.shelf) in
     let failed = Rose (g.S.Shelf.faults c.args.shelf.now) (g.S.Shelf.faults c.read_netlist.new.shelf) in
-    after reply_of c.unrolled.result (NetlistIn (g.S.Shelf.held c.args.shelf.now) c.args.setting.now.signature c.args.words.now.other.now) (λ second. SameUnrolled setting c.args.words.now.net.now c.args.netlist c.args.words.now.other.now second c.args.words.now.terms c.args.words.now.cycles) c.in-Ok.second
+    after reply_of c.unrolled.result (NetlistIn (g.S.Shelf.held c.args.shelf.now) c.args.setting.now.signature c.args.words.now.other.now) (λ second. SameUnrolled setting c.args.words.now.net.now c.args.netlist c.args.words.now.other.now second c.args.words.now.terms c.args.words.now.cycles c.args.words.now.simplify) c.in-Ok.second
     missed failed ⊥ ⊥ c.in-Ok.ensures.gives (λ m. absurd m) (λ f. absurd f) c.unrolled.ensures

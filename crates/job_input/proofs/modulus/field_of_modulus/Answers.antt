@@ -3,7 +3,7 @@ use Rattle.gf_tower.specs.AnyField.{IsMadeOf}
 use Rattle.gf_tower.specs.declared.any_field.AnyField.{AnyField}
 use Rattle.gf_tower.specs.declared.any_field.AnyField.TheVariants.{Base}
 use Rattle.job_input.proofs.FieldLemmas.{field_made}
-use Rattle.job_input.proofs.base.base_field.Goals as goal
+use Rattle.job_input.proofs.modulus.field_of_modulus.Goals as goal
 
 pub returns-in-Ok-Base-clause-gives : goal.returns-in-Ok-Base-clause-gives
 returns-in-Ok-Base-clause-gives c =
