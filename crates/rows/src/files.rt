@@ -37,6 +37,34 @@ impl Files {
         &[]
     }
 
+    /// How many files there are.
+    pub fn count(&self) -> usize {
+        self.pairs.len()
+    }
+
+    /// How many bytes the file at a place has.
+    pub fn size(&self, place: usize) -> usize {
+        match self.pairs.get(place) {
+            Some(pair) => pair.1.len(),
+            None => 0,
+        }
+    }
+
+    /// All files, the one at a place cut to this length.
+    pub fn cut(&self, alloc: Global, place: usize, length: usize) -> Result<Files, AllocError> {
+        let mut pairs = Vec::new(alloc);
+        for (at, (name, bytes)) in self.pairs.iter().enumerate() {
+            let whole = bytes.as_slice();
+            let left = if at == place {
+                whole.get(..length).unwrap_or(whole)
+            } else {
+                whole
+            };
+            pairs.push((name.clone()?, left.to_vec(alloc)?))?;
+        }
+        Ok(Files { pairs })
+    }
+
     /// All files.
     pub fn copied(&self, alloc: Global) -> Result<Vec<(String, Vec<u8>)>, AllocError> {
         let mut pairs = Vec::new(alloc);

@@ -3,6 +3,7 @@
 #![tactic(auto)]
 
 mod call;
+mod cuts;
 mod escapes;
 mod files;
 mod outside;

@@ -8,6 +8,8 @@
 //!     keep F              what the call answers is the file F of the calls after it
 //!     status N            its status; its lines follow, each behind `|`
 //!     ends N LENGTH       its status, and how many bytes it prints; its last lines follow, each behind `|`
+//!     cuts N N ..         the same call, once for each byte of each file, with the file cut before it: how many answers are
+//!                         the same, how many others have the status 0, 1, .. 5, and how many not the form of an answer
 //!
 //! and what fails outside in the calls after it, up to the next line of the kind or the next row:
 //!
@@ -21,6 +23,7 @@
 //! The name of a row has no space in it. A line behind `|` ends with a line feed, one behind `:` does not; the line of a
 //! change is behind `:`, and where several lines take its place, those before the last are behind `|`.
 use crate::call::answer;
+use crate::cuts::cut_answers;
 use crate::escapes::plain;
 use crate::files::{Files, changed};
 use crate::outside::Outside;
@@ -34,6 +37,7 @@ enum Target {
     Text(String),
     Change(String, u32),
     Answer(Option<u32>),
+    Cuts(String),
 }
 
 /// The rows that were read so far, and what the next lines belong to.
@@ -48,6 +52,7 @@ pub struct Reader {
     words: Vec<String>,
     keep: Option<String>,
     status: u8,
+    last: (u8, Vec<u8>),
     rows: u32,
     calls: u32,
     differ: u32,
@@ -66,6 +71,7 @@ impl Reader {
             words: Vec::new(alloc),
             keep: None,
             status: 0,
+            last: (0, Vec::new(alloc)),
             rows: 0,
             calls: 0,
             differ: 0,
@@ -106,6 +112,7 @@ impl Reader {
                 self.files.put(name, text)?;
             }
             Target::Answer(length) => self.call(rt, alloc, &lines, length)?,
+            Target::Cuts(wanted) => self.cut(rt, alloc, &wanted)?,
         }
         Ok(())
     }
@@ -125,8 +132,21 @@ impl Reader {
             let told = String::from_utf8_lossy(alloc, &text)?;
             println!(rt; "DIFFERS {}: status {status}, {told}", self.row)?;
         }
+        self.last = (status, text.to_vec(alloc)?);
         if let Some(name) = self.keep.take() {
             self.files.put(name, text)?;
+        }
+        Ok(())
+    }
+
+    // Makes the last call with each file cut at each byte, and tells where the answers are others.
+    fn cut(&mut self, rt: &impl Print, alloc: Global, wanted: &String) -> anyhow::Result<()> {
+        let tally = cut_answers(alloc, &self.words, &self.files, &self.outside, &self.last)?;
+        let told = tally.line(alloc)?;
+        self.calls = self.calls.wrapping_add(1);
+        if told != *wanted {
+            self.differ = self.differ.wrapping_add(1);
+            println!(rt; "DIFFERS {}: {told}", self.row)?;
         }
         Ok(())
     }
@@ -156,6 +176,9 @@ impl Reader {
             [word, status, length] if word.as_str() == "ends" => {
                 self.status = status.parse().unwrap_or(255);
                 self.target = Target::Answer(Some(length.parse().unwrap_or(0)));
+            }
+            [word, ..] if word.as_str() == "cuts" => {
+                self.target = Target::Cuts(String::from_utf8_lossy(alloc, line)?);
             }
             parts => self.outside.take(alloc, parts)?,
         }
