@@ -35,7 +35,7 @@ FILES = {
            '  assign z[0] = a[0] & b[0] ^ p3;\n  assign z[1] = a[0] & b[1] ^ a[1] & b[0] ^ p3;\nendmodule\n',
     's2': 'gfsig 1\nfield 0x3\nword A input poly a\nword B input poly b\nword Z output poly z\n',
     'm.aag': 'aag 3 2 0 1 1\n2\n4\n6\n6 2 4\ni0 a\ni1 b\no0 z\n',
-    'spec': 'Z = A*B + 0x2*A^2*B^2 + 0x3\n',
+    'spec': 'Z = A*B + 0x2*A^2*B^2 + 0x3\n', 'ab': 'Z = A*B\n',
     'sd': 'gfsig 2\nfield 0x7\nword A fed poly\nword B input poly b0 b1\nword Z output poly z0 z1\nfeed d 0 A[1]\nfeed d 1 A[0]\n',
     'd': '.model d\n.inputs b0 b1 d\n.outputs z0 z1\n.latch n0 z0 0\n.latch n1 z1 0\n.names d b0 p0\n11 1\n.names d b1 p1\n11 1\n'
          '.names z1 p0 n0\n10 1\n01 1\n.names z0 z1 p1 n1\n100 1\n010 1\n001 1\n111 1\n.end\n',
@@ -48,7 +48,7 @@ FILES = {
     't16': 'gfsig 1\nfield 0x7\ntower 0x2 0x1\nword Z output poly z0 z1 z2 z3\n',
 }
 CALLS = [
-    'bits sv m.v', 'abstract sv m.v', 'abstract s2 m.aag', 'check sv m.v spec', 'same s2 m.aag m.aag', 'eval s2 m.aag 0x1 0x1',
+    'bits sv m.v', 'abstract sv m.v', 'abstract sd d --cycles 2 --simplify', 'check s4 mulor ab --simplify', 'same s4 mul mulor --simplify', 'abstract s2 m.aag', 'check sv m.v spec', 'same s2 m.aag m.aag', 'eval s2 m.aag 0x1 0x1',
     'abstract sd d --cycles 2', 'abstract sh h', 'compose sh h', 'certify sw w', 'verify sw w c', 'upgrade sw w c', 'table sw w',
     'lift sw t', 'iso b16 t16', 'make mastrovito s4', 'make digit sd', 'trial 3 0x7',
     'certify s4 mul', 'verify s4 mul cert', 'verify s4 mul gfcert1', 'same s4 mul mulor', 'same s4 mul mul', 'abstract s4h hier',

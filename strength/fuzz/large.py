@@ -142,6 +142,7 @@ LIMITS = [
     abstract('1,048,576 gates', CONSTANT, chain(NETS, b'.names n0\n'), 0, 'Z = 0x1'),
     abstract('1,048,577 gates', CONSTANT, chain(NETS, b'.names n0\n', b'.names z\n'), 2, 'fault 38: too many gates in F'),
     abstract('1,000,000 inverters', SIGNATURE, chain(MANY, b'.inputs a\n.names a n0\n0 1\n'), 0, 'Z = A'),
+    Case('1,000,000 inverters, simplified', 'abstract S F --simplify', {'S': SIGNATURE, 'F': chain(MANY, b'.inputs a\n.names a n0\n0 1\n')}, 0, 'Z = A\n'),
     abstract('100,000 inverters over GF(4)', TWO_BITS, chain(100000, DEEP, last=b'z0'), 0, 'Z = 0x2*A^2 + 0x3*A'),
     abstract('cycle of 1,000,000 gates', SIGNATURE, cycle(MANY), 2, 'fault 36: loop of 1000000 nets through n0 in F'),
     abstract('1,048,575 primary inputs', SIGNATURE, inputs(NETS - 1), 0, 'Z = A'),

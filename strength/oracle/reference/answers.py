@@ -11,14 +11,16 @@ from .makers import KINDS, make
 from .nets import Bound, Flat, Job
 from .polynomials import Bounded, Variables, cuts, expanded, in_words, words_text
 from .signature import Signature
+from .simpler import simpler
 from .specification import Spec
 from .tables import is_small, lifted, rows, table_values
 from .verilog import read_verilog
 
 WORDS = Fault(1, 'words')
+ALL = ('--terms', '--cycles', '--simplify')
 OPTIONS = {
-    'bits': ('--terms', '--cycles'), 'abstract': ('--terms', '--cycles'), 'check': ('--terms', '--cycles'),
-    'same': ('--terms', '--cycles'), 'eval': ('--cycles',), 'table': ('--cycles',), 'lift': (), 'iso': (), 'make': (),
+    'bits': ALL, 'abstract': ALL, 'check': ALL, 'same': ALL,
+    'eval': ('--cycles',), 'table': ('--cycles',), 'lift': (), 'iso': (), 'make': (),
     'trial': ('--terms',), 'compose': ('--terms',), 'certify': ('--terms', '--cycles'), 'verify': ('--terms', '--cycles'),
     'upgrade': ('--cycles',),
 }
@@ -63,17 +65,25 @@ def spelled(words):
         raise WORDS
     if not fits(command, operands):
         raise WORDS
-    options = {'--terms': VERIFY[1] if command == 'verify' else 65536, '--cycles': 0}
-    if len(rest) % 2 or len(set(rest[::2])) < len(rest[::2]):
+    given = read_options(command, rest)
+    return command, operands, {'--terms': VERIFY[1] if command == 'verify' else 65536, '--cycles': 0, '--simplify': False} | given
+
+
+def read_options(command, rest):
+    """The options that are given, each once: two with a number behind them, and one alone."""
+    given, rest = {}, iter(rest)
+    for name in rest:
+        if name not in OPTIONS[command] or name in given:
+            raise WORDS
+        given[name] = True if name == '--simplify' else number_of(command, name, next(rest, ''))
+    return given
+
+
+def number_of(command, name, value):
+    least, most = VERIFY if (command, name) == ('verify', '--terms') else LIMITS[name]
+    if not NUMBER.match(value) or not least <= int(value) <= most:
         raise WORDS
-    for name, value in zip(rest[::2], rest[1::2]):
-        if name not in OPTIONS[command] or not NUMBER.match(value):
-            raise WORDS
-        least, most = VERIFY if (command, name) == ('verify', '--terms') else LIMITS[name]
-        if not least <= int(value) <= most:
-            raise WORDS
-        options[name] = int(value)
-    return command, operands, options
+    return int(value)
 
 
 def fits(command, operands):
@@ -113,8 +123,16 @@ def called(signature):
     return signature.top.output.name.decode()
 
 
+def flat_of(job, options):
+    """The unrolled net, made simpler where that is asked for."""
+    flat = Flat(job)
+    if options['--simplify']:
+        flat.net = simpler(flat.net, flat.nets[flat.output.name])
+    return flat
+
+
 def answer_bits(signature, operands, options, files):
-    flat = Flat(one_job(signature, operands, options, files))
+    flat = flat_of(one_job(signature, operands, options, files), options)
     last = cuts(flat, Bounded(options['--terms']))
     return 0, '%s = %s\n' % (called(signature), in_bits_text(flat, last))
 
@@ -127,7 +145,7 @@ def in_bits_text(flat, last):
 
 def abstracted(signature, job, options):
     """The unrolled net, its last cut, and the line of the polynomial in words."""
-    flat = Flat(job)
+    flat = flat_of(job, options)
     last = cuts(flat, Bounded(options['--terms']))
     polynomial = in_words(flat, last, Bounded(options['--terms']))
     return flat, last, '%s = %s\n' % (called(signature), Variables(flat).text(polynomial))
@@ -178,7 +196,7 @@ def answer_same(signature, operands, options, files):
     jobs = [job_of(signature, bound, options) for bound in bounds]
     last = []
     for job, prefix in zip(jobs, ('', 'second ')):
-        flat = Flat(job)
+        flat = flat_of(job, options)
         last.append(by_rank(flat, cuts(flat, Bounded(options['--terms'], prefix))))
     told = difference(signature.field, signature.top.inner, jobs[0].output_at, jobs[1].output_at, ('first', 'second'), lambda: last)
     return (1, 'differ\n' + told) if told else (0, 'same\n')

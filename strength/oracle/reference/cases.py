@@ -114,6 +114,34 @@ class Design:
             known = known + [out]
         self.latches = [(random.choice(known), out, start) for out, start in self.latches]
 
+    def map(self):
+        """Gives each gate by NANDs and inverters, as a mapper would, and some latches a reset or an enable."""
+        random, old, self.gates = self.random, self.gates, []
+        for out, inputs, table in old:
+            self.gates.append((out, [self.of_nands(inputs, table)], 2))
+        for i, (following, out, start) in enumerate(self.latches):
+            if self.inputs and random.random() < 0.5:
+                control = random.choice(self.case.fed_nets or self.inputs)
+                held = random.choice([([control, following], 8), ([control, following], 4), ([control, following, out], 0xd8)])
+                self.latches[i] = self.of_nands(*held), out, start
+
+    def added(self, inputs, table):
+        self.gates.append(('m%d' % len(self.gates), inputs, table))
+        return self.gates[-1][0]
+
+    def of_nands(self, inputs, table):
+        """The net of a table, by Shannon's expansion; a constant is a gate of its own."""
+        if not inputs:
+            return self.added([], table & 1)
+        half = 1 << (len(inputs) - 1)
+        low, high = table & ((1 << half) - 1), table >> half
+        if low == high and self.random.random() < 0.8:
+            return self.of_nands(inputs[:-1], low)
+        x = inputs[-1]
+        opposite = self.added(*self.random.choice([([x], 1), ([x, x], 7)]))
+        f, g = self.of_nands(inputs[:-1], low), self.of_nands(inputs[:-1], high)
+        return self.added([self.added([opposite, f], 7), self.added([x, g], 7)], 7)
+
     def shuffled(self):
         gates = list(self.gates)
         if self.random.random() < 0.5:

@@ -104,24 +104,41 @@ class Bounded:
             raise Fault(3, '%s%s has %d terms, bound %d' % (self.prefix, stage, count, self.bound))
 
 
+class Cut:
+    """A polynomial in sets of nets; its terms by the gate in them that is eliminated first."""
+
+    def __init__(self, gates):
+        self.turn, self.parts, self.count = {g.out: t for t, g in enumerate(gates)}, {}, 0
+
+    def add(self, monomial, c):
+        turn = min((self.turn[n] for n in monomial if n in self.turn), default=None)
+        part = self.parts.setdefault(turn, {})
+        self.count -= len(part)
+        added(part, monomial, c)
+        self.count += len(part)
+
+    def take(self, turn):
+        part = self.parts.pop(turn, {})
+        self.count -= len(part)
+        return part
+
+
 def cuts(flat, bounded, recorded=lambda net, with_it: None):
     """The last cut: a polynomial in sets of nets. Each net that stands in it when its gate is met is told, with its terms."""
-    field, total = flat.field, {}
+    gates = [flat.net.gates[p] for p in flat.net.elimination()]
+    cut = Cut(gates)
     for beta, n in zip(flat.output.elements, flat.nets[flat.output.name]):
-        added(total, frozenset([n]), beta)
-    bounded.check('cut 0', len(total))
-    for t, p in enumerate(flat.net.elimination(), 1):
-        gate = flat.net.gates[p]
-        with_it = {m: c for m, c in total.items() if gate.out in m}
+        cut.add(frozenset([n]), beta)
+    bounded.check('cut 0', cut.count)
+    for t, gate in enumerate(gates):
+        with_it = cut.take(t)
         if with_it:
             recorded(gate.out, with_it)
-        for m in with_it:
-            del total[m]
         for s in table_sets(gate) if with_it else ():
             for m, c in with_it.items():
-                added(total, (m - {gate.out}) | s, c)
-        bounded.check('cut %d' % t, len(total))
-    return total
+                cut.add((m - {gate.out}) | s, c)
+        bounded.check('cut %d' % (t + 1), cut.count)
+    return cut.take(None)
 
 
 def table_sets(gate):

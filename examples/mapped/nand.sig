@@ -1,0 +1,5 @@
+gfsig 1
+field 0x13
+word A input poly a[0] a[1] a[2] a[3]
+word B input poly b[0] b[1] b[2] b[3]
+word Z output poly z[0] z[1] z[2] z[3]
