@@ -1,7 +1,9 @@
 -- Where nothing that `bits`, `abstract` or `eval` reads is refused, it has an answer.
-use Rattle.std.proofs.Common.{◌≡◌, ◌⊎◌, ◌∙◌, refl, sym, inl, inr, ℕ, Bool, false, List, length, Option, Result, Ok, Err, arith}
+use Rattle.std.proofs.Common.{◌≡◌, ◌⊎◌, ◌∙◌, refl, sym, inl, inr, ℕ, Bool, true, false, List, length, reverse, Option, Result, Ok, Err, arith}
 use Rattle.job_io.specs.Shelf.{Files}
+use Rattle.net_core.specs.Sound.{IsSound}
 use Rattle.net_words.specs.Binding.{BoundNet}
+use Rattle.net_simplify.proofs.CircuitLemmas.{circuit_some}
 use Rattle.poly_mixed.specs.Polynomial.{Terms}
 use Rattle.circuit_model.specs.Circuit.{Circuit, IsInput}
 use Rattle.circuit_model.specs.OfBinding.{output_basis}
@@ -10,6 +12,7 @@ use Rattle.circuit_model.proofs.OutLemmas.{some_out}
 use Rattle.stage_model.specs.CircuitListing.{circuit_cuts}
 use Rattle.stage_model.specs.WordListing.{word_listing}
 use Rattle.stage_model.proofs.BoundLemmas.{bound_over, bound_within}
+use Rattle.stage_model.proofs.EliminationLemmas.{some_elimination}
 use Rattle.stage_model.proofs.OutputInBitsLemmas.{same_stage}
 use Rattle.stage_model.proofs.SearchLemmas.{IsDecided, both_decided}
 use Rattle.stage_model.proofs.SomeOverLemmas.{circuit_cuts_decided, words_decided}
@@ -24,18 +27,21 @@ use Rattle.job_input.specs.CircuitOf.{UnrolledIn}
 use Rattle.job_input.specs.Labelling.{labels_of}
 use Rattle.job_input.specs.NetlistOf.{NetlistIn, by_ending}
 use Rattle.job_input.specs.SettingValue.{SettingValue}
+use Rattle.job_input.proofs.SettingSoundLemmas.{setting_sound}
 use Rattle.answer_core.specs.Abstraction.{IsInWords, IsLastCut, abstract_stages, bits_stages, taken_circuit}
 use Rattle.answer_core.specs.Printed.{IsTaken}
 use Rattle.answer_core.specs.Reply.{Reply, prints}
+use Rattle.answer_core.specs.Simpler.{IsSimpler}
 use Rattle.answer_core.specs.Staged.{either_text}
 use Rattle.answer_core.proofs.SimplerLemmas.{simpler_long}
+use Rattle.answer_core.proofs.TakenLemmas.{one_cycle}
 use Rattle.answer_polynomials.specs.Abstract.{AbstractReply}
 use Rattle.answer_polynomials.specs.Bits.{BitsReply}
 use Rattle.answer_polynomials.specs.Eval.{element_line}
 use Rattle.answer_polynomials.specs.Values.{ValuesOf}
 use Rattle.answer_polynomials.proofs.ElementLemmas.{values_fit}
 use Rattle.answer_polynomials.proofs.EqualLemmas.{count, sound, well}
-use Rattle.gf_abs.specs.Refusals.{EvalGiven, HasAnswer, SettingIn, SimplerGiven}
+use Rattle.gf_abs.specs.Refusals.{CircuitGiven, EvalGiven, HasAnswer, SettingIn, SimplerGiven}
 
 -- ---- over a circuit
 
@@ -109,11 +115,29 @@ module _ (held : Option Files) (words : List Word) (signature net : Word) (bound
   bases_fit : length setting.bases ≡ length circuit.binding.words
   bases_fit = simpler_long setting circuit (sound setting circuit taken) taken.netlist taken.cycles taken.simple taken.is_circuit
 
-  pub bits_has_answer : IsSpelled words (Over signature (Bits net bound cycles simple)) → HasAnswer words held
+  bits_has_answer : IsSpelled words (Over signature (Bits net bound cycles simple)) → HasAnswer words held
   bits_has_answer spelled = let some = some_bits setting circuit bound (well setting circuit taken) bases_fit in bits_answer spelled some.0 some.1
 
-  pub abstract_has_answer : IsSpelled words (Over signature (Abstract net bound cycles simple)) → HasAnswer words held
+  abstract_has_answer : IsSpelled words (Over signature (Abstract net bound cycles simple)) → HasAnswer words held
   abstract_has_answer spelled = let some = some_abstract setting circuit bound (well setting circuit taken) bases_fit in abstract_answer spelled some.0 some.1
+
+-- of each sound circuit there is a simpler one
+some_simpler : (simple : Bool) (circuit : BoundNet) → IsSound circuit.net → (simpler : BoundNet) × IsSimpler simple circuit simpler
+some_simpler true circuit is_sound = circuit_some (λ net is. let order = some_elimination net is in (reverse order.0, order.1)) circuit is_sound
+some_simpler false circuit is_sound = (circuit, refl)
+
+module _ (held : Option Files) (words : List Word) (signature net : Word) (bound cycles : ℕ) (simple : Bool) (setting : SettingValue) (circuit : BoundNet) (setting_in : SettingIn held signature (Ok setting)) (circuit_in : CircuitGiven held net cycles setting (Ok circuit)) where
+  circuit_sound : IsSound circuit.net
+  circuit_sound = (one_cycle setting circuit (setting_sound setting_in.1.0 setting (setting_in.0, setting_in.1.2, setting_in.2)) (by_ending net circuit_in.1.0) cycles (circuit_in.0, circuit_in.1.2, circuit_in.2)).0
+
+  made : (simpler : BoundNet) × IsSimpler simple circuit simpler
+  made = some_simpler simple circuit circuit_sound
+
+  pub bits_answers : IsSpelled words (Over signature (Bits net bound cycles simple)) → HasAnswer words held
+  bits_answers spelled = bits_has_answer held words signature net bound cycles simple setting made.0 setting_in (circuit, circuit_in, made.1) spelled
+
+  pub abstract_answers : IsSpelled words (Over signature (Abstract net bound cycles simple)) → HasAnswer words held
+  abstract_answers spelled = abstract_has_answer held words signature net bound cycles simple setting made.0 setting_in (circuit, circuit_in, made.1) spelled
 
 -- an output at the values, which are an input
 module _ (held : Option Files) (words : List Word) (signature net : Word) (values : List Word) (cycles : ℕ) (setting : SettingValue) (setting_in : SettingIn held signature (Ok setting)) where

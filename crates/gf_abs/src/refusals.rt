@@ -67,9 +67,9 @@ pub fn each_command_is_refused_in_order()
 {}
 
 /// Where nothing that `bits`, `abstract` or `eval` reads is refused, it has an answer: a polynomial, or the first stage over the bound;
-/// of `eval` an output. With `--simplify` that is so where there is a simplified circuit.
+/// of `eval` an output. So it is with `--simplify` too.
 pub fn some_answer_over_a_circuit()
-    ensures in_bits { OfBits (λ held words signature net bound cycles simple. Reads held signature (SimplerGiven held net cycles simple) → HasAnswer words held) }
-    ensures in_words { OfAbstract (λ held words signature net bound cycles simple. Reads held signature (SimplerGiven held net cycles simple) → HasAnswer words held) }
+    ensures in_bits { OfBits (λ held words signature net bound cycles simple. Reads held signature (CircuitGiven held net cycles) → HasAnswer words held) }
+    ensures in_words { OfAbstract (λ held words signature net bound cycles simple. Reads held signature (CircuitGiven held net cycles) → HasAnswer words held) }
     ensures in_values { OfEval (λ held words signature net values cycles. Reads held signature (EvalGiven held net values cycles) → HasAnswer words held) }
 {}
