@@ -16,7 +16,7 @@ use Rattle.poly_mixed.specs.declared.stage.Stage.TheVariants.{Cut, WordProduct, 
 use Rattle.circuit_model.specs.Circuit.{Circuit}
 use Rattle.stage_model.specs.CircuitListing.{circuit_stages}
 use Rattle.abstraction.specs.Stages.{joined}
-use Rattle.spec_expand.specs.Specification.{SpecTerms}
+use Rattle.term_expand.specs.Sums.{SumOfProducts}
 use Rattle.compose_polys.specs.InstanceListing.{is_instance_stage}
 use Rattle.compose_model.specs.Hierarchy.{bases_at, block_from, Hierarchy}
 use Rattle.compose_model.specs.Values.{IsCircuitOf}
@@ -109,7 +109,7 @@ has_word circuit count same (SpecSum s) is = tt
 has_word circuit count same (InstanceProduct i s j) is = tt
 has_word circuit count same (InstanceSum i s) is = tt
 
-has_no_word : (count n : ℕ) (block : SpecTerms) (stage : Stage) → is_instance_stage n block stage → HasItsWord count stage
+has_no_word : (count n : ℕ) (block : SumOfProducts) (stage : Stage) → is_instance_stage n block stage → HasItsWord count stage
 has_no_word count n block (Cut t) is = tt
 has_no_word count n block (WordProduct w s j) is = absurd is
 has_no_word count n block (WordSum w s) is = absurd is

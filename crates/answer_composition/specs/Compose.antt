@@ -24,6 +24,7 @@ use Rattle.job_words.specs.declared.fault.Fault.{Fault}
 use Rattle.job_words.specs.declared.fault.Fault.TheVariants as faults
 use Rattle.job_words.specs.declared.signature_fault.SignatureFault.{SignatureFault}
 use Rattle.job_words.specs.Operands.{Word}
+use Rattle.job_words.specs.declared.words.ComposeWords.{ComposeWords}
 use Rattle.job_input.specs.HierarchyIn.{HierarchyIn}
 use Rattle.job_input.specs.Labelling.{labels_of}
 use Rattle.job_input.specs.NetlistOf.{word_name}
@@ -40,11 +41,15 @@ WithBlocks k product lists (block ∷ blocks) = do
   bases ← BasesOf k product block.words
   WithBlocks k product (lists ++ bases ∷ []) blocks
 
+-- so it is where a fault is one of the whole signature
+abbrev pub WithBlocksOf : ℕ → (ℕ → ℕ → ℕ) → List (List (List ℕ)) → List BlockValue → Outcome Fault (List (List (List ℕ)))
+WithBlocksOf k product lists blocks = Within faults.Signature (WithBlocks k product lists blocks)
+
 -- the bases of the words of the top, and then those of the words of each block: there are such, since the signature was taken
 abbrev pub ListsOf : ℕ → (ℕ → ℕ → ℕ) → SignatureValue → Outcome Fault (List (List (List ℕ)))
 ListsOf k product signature = do
   top ← Within faults.Signature (BasesOf k product signature.words)
-  Within faults.Signature (WithBlocks k product (top ∷ []) signature.blocks)
+  WithBlocksOf k product (top ∷ []) signature.blocks
 
 -- the models with the words and the blocks of a signature, and with these bases
 abbrev pub hierarchy_with : SettingValue → List ModelValue → List (List (List ℕ)) → Hierarchy
@@ -105,3 +110,7 @@ abbrev pub ComposeAnswer : Option Files → SettingValue → Word → ℕ → Ou
 ComposeAnswer held setting net terms = do
   design ← HierarchyIn held setting.signature net
   ComposeOver setting design terms
+
+-- so it is with the words of the command
+abbrev pub ComposeAnswerTo : SettingValue → ComposeWords → Option Files → Outcome Fault Reply
+ComposeAnswerTo setting words held = ComposeAnswer held setting words.net.now words.terms

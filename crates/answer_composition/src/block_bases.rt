@@ -1,12 +1,10 @@
 //! The bases of the words of a top and of its blocks.
 ghost use Rattle.std.specs.Prelude.{◌≡◌, [], ◌∷◌, List, length, map, IfOk};
-ghost use Rattle.outcome.specs.Outcome.{Within};
 ghost use Rattle.net_words.specs.declared.word.WordText.{WordText};
 ghost use Rattle.gf_basis.specs.BasisParts.{elements_of};
 ghost use Rattle.job_words.specs.Stop.{GivesBy};
-ghost use Rattle.job_words.specs.declared.fault.Fault.TheVariants.{Signature as OfSignature};
 ghost use Rattle.job_input.specs.Setting.{AreBasesOver};
-ghost use Rattle.answer_composition.specs.Compose.{ListsOf, WithBlocks};
+ghost use Rattle.answer_composition.specs.Compose.{ListsOf, WithBlocksOf};
 ghost use Rattle.answer_composition.specs.private.Composing.{AreListsOf};
 
 use block_compose::BlockBases;
@@ -40,7 +38,7 @@ fn with_blocks<F: Field>(
     blocks: &[Block],
 ) -> Result<BlockBases, Stop>
     requires { AreBasesOver (F.degree field.now) (F.product field.now) top.items }
-    ensures gives { GivesBy (λ bases. map (map elements_of) bases) result (Within OfSignature (WithBlocks (F.degree field.now) (F.product field.now) (map elements_of top.items ∷ []) blocks.now)) ⊥ ⊥ }
+    ensures gives { GivesBy (λ bases. map (map elements_of) bases) result (WithBlocksOf (F.degree field.now) (F.product field.now) (map elements_of top.items ∷ []) blocks.now) ⊥ ⊥ }
     ensures are { (words : List WordText) → length top.items ≡ length words → IfOk result (λ bases. AreListsOf (F.degree field.now) (F.product field.now) words blocks.now bases) }
 {
     let mut bases = BlockBases::new(alloc);

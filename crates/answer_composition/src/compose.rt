@@ -1,13 +1,11 @@
 //! The command `compose`: the output word's polynomial in the input words, from the polynomials of blocks.
 ghost use Rattle.std.specs.Prelude.{◌≡◌, ◌≤◌, map, Ok};
-ghost use Rattle.job_io.specs.Counts.{Rose};
 ghost use Rattle.gf_basis.specs.BasisParts.{elements_of};
-ghost use Rattle.job_words.specs.Stop.{GivesBy};
 ghost use Rattle.job_input.specs.HierarchyIn.{TopBinds};
 ghost use Rattle.job_input.specs.Setting.{IsReady, setting_value};
-ghost use Rattle.answer_core.specs.Reply.{reply_of};
-ghost use Rattle.answer_composition.specs.Compose.{ComposeAnswer, ComposeOver, ComposeReply};
+ghost use Rattle.answer_composition.specs.Compose.{ComposeAnswerTo, ComposeOver, ComposeReply};
 ghost use Rattle.answer_composition.specs.private.Composing.{AreListsOf};
+ghost use Rattle.answer_core.specs.Replies.{Replies, RepliesAlone};
 
 use crate::block_bases::all_bases;
 use crate::composition::composition_stop;
@@ -31,8 +29,7 @@ pub fn answer<F: Field, S: Shelf>(
     requires { IsReady (F.degree field.now) (F.product field.now) setting.now }
     ensures held { S.held shelf.new ≡ S.held shelf.old }
     ensures never_fall { (S.faults shelf.old ≤ S.faults shelf.new) × (S.misses shelf.old ≤ S.misses shelf.new) }
-    ensures gives { GivesBy reply_of result (ComposeAnswer (S.held shelf.old) (setting_value (F.degree field.now) (F.product field.now) setting.now) words.now.net.now words.now.terms)
-        (Rose (S.misses shelf.old) (S.misses shelf.new)) (Rose (S.faults shelf.old) (S.faults shelf.new)) }
+    ensures gives { Replies S.held S.misses S.faults shelf.old shelf.new result (ComposeAnswerTo (setting_value (F.degree field.now) (F.product field.now) setting.now) words.now) }
 {
     match read_hierarchy(alloc, shelf, setting, words.net) {
         Ok(design) => over(alloc, field, setting, &design, words.terms),
@@ -50,7 +47,7 @@ fn over<F: Field>(
 ) -> Result<Output, Stop>
     requires ready { IsReady (F.degree field.now) (F.product field.now) setting.now }
     requires top { TopBinds setting.now.signature design.now (Ok tt) }
-    ensures { GivesBy reply_of result (ComposeOver (setting_value (F.degree field.now) (F.product field.now) setting.now) design.now bound) ⊥ ⊥ }
+    ensures { RepliesAlone result (ComposeOver (setting_value (F.degree field.now) (F.product field.now) setting.now) design.now bound) }
 {
     match all_bases(alloc, field, &setting.signature) {
         Ok(bases) => reply(alloc, field, setting, design, &bases, bound),
@@ -70,7 +67,7 @@ fn reply<F: Field>(
     requires ready { IsReady (F.degree field.now) (F.product field.now) setting.now }
     requires top { TopBinds setting.now.signature design.now (Ok tt) }
     requires bases { AreListsOf (F.degree field.now) (F.product field.now) setting.now.signature.words setting.now.signature.blocks bases.now }
-    ensures { GivesBy reply_of result (ComposeReply (setting_value (F.degree field.now) (F.product field.now) setting.now) design.now (map (map elements_of) bases.now) bound) ⊥ ⊥ }
+    ensures { RepliesAlone result (ComposeReply (setting_value (F.degree field.now) (F.product field.now) setting.now) design.now (map (map elements_of) bases.now) bound) }
 {
     let labels = labels(alloc, field, setting)?;
     match compose(alloc, field, design, &setting.signature, bases, bound) {

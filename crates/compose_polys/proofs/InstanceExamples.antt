@@ -1,6 +1,6 @@
 -- Worked examples, which the check computes.
 use Rattle.std.proofs.Common.{◌≡◌, refl, ◌^◌, [], ◌∷◌}
-use Rattle.spec_expand.specs.SpecValue.{factors_of}
+use Rattle.term_expand.specs.SumValue.{factors_of}
 use Rattle.compose_polys.specs.Instance.{block_term, point_of}
 
 -- the term 5 A^3 B of a block has three factors: A, A^2 and B

@@ -24,7 +24,7 @@ use Rattle.compose_polys.specs.Instances.{AreDone, IsReady}
 use Rattle.compose_polys.specs.Words.{feed_terms, values_of, AreWordPolys, IsFeedAmong}
 use Rattle.compose_polys.specs.InstancePolys.{feed_at, AreInstancePolys, HaveBlockPolys}
 use Rattle.compose_polys.proofs.ComposedLemmas.{composed_output}
-use Rattle.compose_polys.proofs.PowerLemmas.{feed_reduced}
+use Rattle.term_expand.proofs.PowerLemmas.{feed_reduced}
 
 mapped_twice : {A : Type 0} (f : A → Terms) (g : Terms → ℕ) (h : A → ℕ) (xs : List A) → ((j : ℕ) (x : A) → slice_get xs j ≡ Some x → g (f x) ≡ h x) → map g (map f xs) ≡ map h xs
 mapped_twice f g h [] same = refl

@@ -7,7 +7,7 @@ use Rattle.gf_field.specs.Power.{power}
 use Rattle.poly_mixed.specs.Monomial.{has_bit, Monomial}
 use Rattle.poly_mixed.specs.Polynomial.{powers, term_value, value, IsTerm, Terms}
 use Rattle.stage_model.specs.First.{InFirstRanks}
-use Rattle.spec_expand.specs.SpecValue.{powers_at, spec_at}
+use Rattle.term_expand.specs.SumValue.{powers_at, sum_at}
 use Rattle.compose_polys.specs.Instance.{block_terms, point_of, powers_from}
 
 -- zeros at the end of a list are read past its end too
@@ -56,7 +56,7 @@ module _ (k : ℕ) (mul : ℕ → ℕ → ℕ) (xs : List ℕ) where
       ∙ ap (λ rs. cond (list_all (point_of xs).is_one rs) (mul t.1 (powers mul t.0.exponents ys)) 0) (sym none)
 
   -- the sum of the block's terms at the values of the feeds is the block's polynomial there
-  pub terms_value : (ts : Terms) → AllByRecursion (IsTerm k) ts → InFirstRanks 0 ts → spec_at mul xs (block_terms ts) ≡ value mul (point_of xs) ts
+  pub terms_value : (ts : Terms) → AllByRecursion (IsTerm k) ts → InFirstRanks 0 ts → sum_at mul xs (block_terms ts) ≡ value mul (point_of xs) ts
   terms_value [] all lacks = refl
   terms_value (t ∷ ts) all lacks =
       ap₂ bit_xor (term_same t all.0 (no_bits t.0 (λ rank. (lacks rank (omega arith)).0))) (terms_value ts all.1 (λ rank low. (lacks rank low).1))

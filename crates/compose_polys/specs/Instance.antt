@@ -1,9 +1,9 @@
 -- A block's polynomial at what feeds an instance of the block. Source: Pruss, Kalla, Enescu, DAC 2014.
 use Rattle.std.specs.Prelude.{ℕ, ◌+◌, ◌-◌, List, [], ◌∷◌, ◌++◌, length, map, replicate}
-use Rattle.std.specs.List.{AllByRecursion}
 use Rattle.poly_mixed.specs.Monomial.{Monomial}
-use Rattle.poly_mixed.specs.Polynomial.{point, value, IsPolynomialOf, IsReduced, Point, Terms}
-use Rattle.spec_expand.specs.Specification.{SpecTerms}
+use Rattle.poly_mixed.specs.Polynomial.{point, value, IsPolynomialOf, Point, Terms}
+use Rattle.term_expand.specs.Sums.{SumOfProducts}
+pub use Rattle.term_expand.specs.Feeds.{feed_values, AreReduced}
 
 -- each word with its exponent, words being numbered from n
 abbrev pub powers_from : ℕ → List ℕ → List (ℕ × ℕ)
@@ -15,16 +15,8 @@ abbrev pub block_term : Monomial × ℕ → ℕ × List (ℕ × ℕ)
 block_term t = (t.1, powers_from 0 t.0.exponents)
 
 -- the terms of a block's polynomial, in the order of a text
-abbrev pub block_terms : Terms → SpecTerms
+abbrev pub block_terms : Terms → SumOfProducts
 block_terms ts = map block_term ts
-
--- the values of what feeds an instance at a point, feeds being polynomials
-abbrev pub feed_values : (ℕ → ℕ → ℕ) → List Terms → Point → List ℕ
-feed_values mul feeds p = map (value mul p) feeds
-
--- each feed is a reduced polynomial over the field
-abbrev pub AreReduced : ℕ → List Terms → Type 0
-AreReduced k feeds = AllByRecursion (IsReduced k) feeds
 
 -- the point of a block's words: these elements, 0 for the words that the block does not have, and no bit
 abbrev pub point_of : List ℕ → Point

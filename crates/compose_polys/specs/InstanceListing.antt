@@ -1,30 +1,18 @@
 -- The stages of an instance as a listing: the products of its block's terms with their first factors, and the sums of these terms,
 -- at what feeds the instance. Source: this project's own.
-use Rattle.std.specs.Prelude.{◌≡◌, ◌⊎◌, ℕ, ◌+◌, ◌<◌, ◌≤◌, ◌^◌, List, Some, length, take, slice_get}
+use Rattle.std.specs.Prelude.{◌≡◌, ◌⊎◌, ℕ, ◌<◌, ◌≤◌, ◌^◌, List, length, take}
 use Rattle.poly_mixed.specs.Polynomial.{Point, Terms}
 use Rattle.poly_mixed.specs.declared.stage.ReduceFault.{ReduceFault}
 use Rattle.poly_mixed.specs.declared.stage.Stage.{Stage}
 use Rattle.poly_mixed.specs.declared.stage.Stage.TheVariants.{Cut, WordProduct, WordSum, SpecProduct, SpecSum, InstanceProduct, InstanceSum}
 use Rattle.stage_model.specs.Listing.{Listing, Nothing, AreAllWithin, IsRefusal}
-use Rattle.spec_expand.specs.Specification.{SpecTerms}
-use Rattle.spec_expand.specs.SpecValue.{spec_at, product_at}
-use Rattle.spec_expand.specs.SpecListing.{HasFactor}
+use Rattle.term_expand.specs.Sums.{SumOfProducts}
+use Rattle.term_expand.specs.SumValue.{sum_at}
+use Rattle.term_expand.specs.SumListing.{HasFactor, IsAtFeeds, IsTermProduct}
 use Rattle.compose_polys.specs.Instance.{block_terms, feed_values}
 
--- a function of what feeds the instance as a stage: the point is related to its value at the feeds' values there
-abbrev pub IsAtFeeds : (Point → List ℕ) → (List ℕ → ℕ) → Point → ℕ → Type 0
-IsAtFeeds feeds h p e = h (feeds p) ≡ e
-
--- term s of the block, counted from 1, with its first j factors
-pub record IsInstanceProduct (mul : ℕ → ℕ → ℕ) (feeds : Point → List ℕ) (block : SpecTerms) (s j : ℕ) (p : Point) (e : ℕ) : Type 0 where
-  pub place : ℕ
-  pub term : ℕ × List (ℕ × ℕ)
-  pub number : place + 1 ≡ s
-  pub at : slice_get block place ≡ Some term
-  pub is : IsAtFeeds feeds (λ xs. product_at mul xs term j) p e
-
 -- the names of the product and sum stages of instance i
-abbrev pub is_instance_stage : ℕ → SpecTerms → Stage → Type 0
+abbrev pub is_instance_stage : ℕ → SumOfProducts → Stage → Type 0
 is_instance_stage i block (InstanceProduct n s j) = (n ≡ i) × HasFactor block s j
 is_instance_stage i block (InstanceSum n s) = (n ≡ i) × (1 ≤ s) × (s ≤ length block)
 is_instance_stage i block (Cut t) = ⊥
@@ -34,9 +22,9 @@ is_instance_stage i block (SpecProduct s j) = ⊥
 is_instance_stage i block (SpecSum s) = ⊥
 
 -- the product or sum stage of a name
-abbrev pub instance_stage_of : (ℕ → ℕ → ℕ) → (Point → List ℕ) → SpecTerms → Stage → Point → ℕ → Type 0
-instance_stage_of mul feeds block (InstanceProduct n s j) = IsInstanceProduct mul feeds block s j
-instance_stage_of mul feeds block (InstanceSum n s) = IsAtFeeds feeds (λ xs. spec_at mul xs (take s block))
+abbrev pub instance_stage_of : (ℕ → ℕ → ℕ) → (Point → List ℕ) → SumOfProducts → Stage → Point → ℕ → Type 0
+instance_stage_of mul feeds block (InstanceProduct n s j) = IsTermProduct mul feeds block s j
+instance_stage_of mul feeds block (InstanceSum n s) = IsAtFeeds feeds (λ xs. sum_at mul xs (take s block))
 instance_stage_of mul feeds block (Cut t) = Nothing
 instance_stage_of mul feeds block (WordProduct w s j) = Nothing
 instance_stage_of mul feeds block (WordSum w s) = Nothing
@@ -52,7 +40,7 @@ is_earlier_instance_stage (InstanceSum m r) (InstanceSum n s) = r < s
 is_earlier_instance_stage name other = ⊥
 
 -- the stages of instance i of a block with these terms
-abbrev pub instance_listing : (ℕ → ℕ → ℕ) → (Point → List ℕ) → ℕ → SpecTerms → Listing Stage
+abbrev pub instance_listing : (ℕ → ℕ → ℕ) → (Point → List ℕ) → ℕ → SumOfProducts → Listing Stage
 instance_listing mul feeds i block = record { is_listed = is_instance_stage i block; stage_of = instance_stage_of mul feeds block; comes_before = is_earlier_instance_stage }
 
 -- each listed stage relates each point, whatever its elements, to an element of the field of 2 to the k elements

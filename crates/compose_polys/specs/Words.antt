@@ -1,10 +1,10 @@
 -- The polynomials of feeds. Source: Pruss, Kalla, Enescu, DAC 2014.
-use denote.Ref.{Bor}
 use Rattle.std.specs.Prelude.{◌≡◌, ℕ, ◌<◌, ◌^◌, List, [], Some, length, map, slice_get, slice_index}
 use Rattle.std.specs.Option.{unwrap_or}
 use Rattle.poly_mixed.specs.Polynomial.{IsPolynomialOf, IsReduced, Point, Polynomial, Terms}
 use Rattle.poly_mixed.specs.laws.Uniqueness.{InFirstWords}
 use Rattle.stage_model.specs.First.{InFirstRanks}
+pub use Rattle.term_expand.specs.Feeds.{borrowed_terms}
 use Rattle.compose_polys.specs.Instance.{feed_values}
 use Rattle.compose_model.specs.declared.feeder.Feeder.{Feeder}
 use Rattle.compose_model.specs.declared.feeder.Feeder.TheVariants.{InputWord, OutputOf}
@@ -12,10 +12,6 @@ use Rattle.compose_model.specs.declared.feeder.Feeder.TheVariants.{InputWord, Ou
 -- the terms of polynomials
 abbrev pub terms_of : List Polynomial → List Terms
 terms_of polys = map (λ q. q.terms) polys
-
--- the terms of polynomials that are borrowed
-abbrev pub borrowed_terms : List (Bor Polynomial) → List Terms
-borrowed_terms polys = map (λ f. f.now.terms) polys
 
 -- each polynomial is that of the word of its number
 abbrev pub AreWordPolys : ℕ → (ℕ → ℕ → ℕ) → List Terms → Type 0

@@ -1,5 +1,3 @@
-pub mod Square
-pub mod Reached
-pub mod AtFeeds
+pub mod Names
 pub mod Keys
 pub mod Rows

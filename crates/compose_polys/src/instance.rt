@@ -7,10 +7,12 @@ ghost use Rattle.compose_polys.specs.Instance.{AreReduced, IsInstancePoly};
 ghost use Rattle.compose_polys.specs.InstanceListing.{IsInstanceRefusal, IsInstanceWithin};
 ghost use Rattle.compose_polys.specs.Words.{borrowed_terms};
 
-use crate::factors::one_term;
+use crate::names::fault_of;
+use crate::terms::sum_terms;
 use gf_field::Field;
-use poly_mixed::{Poly, ReduceFault, Stage, check_size};
+use poly_mixed::{Poly, ReduceFault};
 use std::alloc::Global;
+use term_expand::expand_sum;
 
 /// The polynomial of an instance, or the first stage over the bound.
 ///
@@ -36,17 +38,9 @@ pub fn instance_poly<F: Field>(
     ensures within { OnOk result (IsInstanceWithin (F.degree field.now) (F.product field.now) (borrowed_terms feeds.now) instance block.now.terms bound) }
     ensures fault { IfErr result (IsInstanceRefusal (F.degree field.now) (F.product field.now) (borrowed_terms feeds.now) instance block.now.terms bound) }
 {
-    let terms = block.terms(alloc)?;
-    let mut sum = Poly::zero(alloc);
-    for s in 0..terms.len() {
-        let number = s as u32 + 1;
-        let product = one_term(alloc, field, feeds, &terms[s], instance, number, bound)?;
-        sum.add_into(field, &product)?;
-        let stage = Stage::InstanceSum {
-            instance,
-            term: number,
-        };
-        check_size(sum.len(), bound, stage)?;
+    let terms = sum_terms(alloc, field, block)?;
+    match expand_sum(alloc, field, &terms, feeds, bound) {
+        Ok(poly) => Ok(poly),
+        Err(fault) => Err(fault_of(instance, fault)),
     }
-    Ok(sum)
 }

@@ -3,18 +3,17 @@
 //! of the flat top.
 #![tactic(auto)]
 
-mod copied;
-mod factors;
 mod feeds;
 mod graph;
 mod instance;
 mod instance_laws;
 mod instances;
 mod levels;
+mod names;
 mod order;
 mod order_laws;
 mod output_laws;
-mod square;
+mod terms;
 mod wired;
 mod words;
 

@@ -13,8 +13,8 @@ use Rattle.poly_mixed.specs.declared.stage.Stage.{Stage}
 use Rattle.poly_mixed.specs.declared.stage.Stage.TheVariants.{Cut, WordProduct, WordSum, SpecProduct, SpecSum, InstanceProduct, InstanceSum}
 use Rattle.stage_model.specs.Stage.{IsWithin}
 use Rattle.stage_model.proofs.SearchLemmas.{measured, search, IsDecided, IsOverBound}
-use Rattle.spec_expand.specs.SpecListing.{HasFactor}
-use Rattle.spec_expand.specs.SpecValue.{factors_of}
+use Rattle.term_expand.specs.SumListing.{HasFactor}
+use Rattle.term_expand.specs.SumValue.{factors_of}
 use Rattle.compose_polys.specs.Instance.{block_terms}
 use Rattle.compose_polys.specs.InstanceListing.{is_earlier_instance_stage}
 use Rattle.compose_polys.proofs.StageLemmas.{mapped_long}

@@ -11,7 +11,7 @@ use Rattle.gf_field.specs.Ring.{IsRing}
 use Rattle.poly_mixed.specs.Polynomial.{value, IsTerm, Point, Terms}
 use Rattle.poly_mixed.specs.declared.stage.Stage.TheVariants.{InstanceSum}
 use Rattle.circuit_model.specs.Out.{IsOut}
-use Rattle.spec_expand.specs.SpecValue.{spec_at}
+use Rattle.term_expand.specs.SumValue.{sum_at}
 use Rattle.compose_polys.specs.Instance.{block_terms, point_of}
 use Rattle.compose_polys.proofs.StageLemmas.{mapped_long}
 use Rattle.compose_polys.proofs.ValueLemmas.{terms_value}
@@ -33,12 +33,12 @@ last_sum k mul h rows i v block p es ring field given all has values at =
     let out : IsOut has.circuit ys v = values.each i v has.item row.0 has.circuit at (subst P place has.at) row.1 has.block_is in
     let facts = (block_facts k mul ring field h given has.item has.circuit has.block_is).1 in
     let Q : ℕ → Type 0 = λ l. AllByRecursion (IsTerm l) block in
-    let terms : spec_at mul ys (block_terms block) ≡ value mul (point_of ys) block = terms_value k mul ys block (subst Q facts.bits has.output.reduced.terms) has.output.no_bits in
+    let terms : sum_at mul ys (block_terms block) ≡ value mul (point_of ys) block = terms_value k mul ys block (subst Q facts.bits has.output.reduced.terms) has.output.no_bits in
     let own : v ≡ value mul (point_of ys) block = block_value k mul ring field h given has.item has.circuit block ys v has.block_is has.output out in
     record {
       block = block;
       has = has;
       ys = ys;
       fed = record { es = es; values = values; place = i; number = refl; feeds = row.0; row = row.1; are = refl };
-      is = ap (spec_at mul ys) (take_all (length block) (block_terms block) (omega (arith, mapped_long block))) ∙ terms ∙ sym own;
+      is = ap (sum_at mul ys) (take_all (length block) (block_terms block) (omega (arith, mapped_long block))) ∙ terms ∙ sym own;
     }

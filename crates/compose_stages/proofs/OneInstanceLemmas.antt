@@ -10,7 +10,7 @@ use Rattle.poly_mixed.specs.declared.stage.Stage.{Stage}
 use Rattle.poly_mixed.specs.declared.stage.Stage.TheVariants.{Cut, WordProduct, WordSum, SpecProduct, SpecSum, InstanceProduct, InstanceSum}
 use Rattle.stage_model.proofs.ListingLemmas.{one_over, over_not_all, HaveOneSize, IsOrdered}
 use Rattle.stage_model.proofs.SizeLemmas.{same_size, IsFunction}
-use Rattle.spec_expand.specs.Specification.{SpecTerms}
+use Rattle.term_expand.specs.Sums.{SumOfProducts}
 use Rattle.compose_polys.specs.Instance.{block_terms}
 use Rattle.compose_polys.specs.InstanceListing.{instance_stage_of, is_earlier_instance_stage, is_instance_stage}
 use Rattle.compose_polys.proofs.StageLemmas.{only_stage}
@@ -49,7 +49,7 @@ sum_product : (m n r s j : ℕ) → Ordered (InstanceSum m r) (InstanceProduct n
 sum_product m n r s j = elim (cases_lt r s) [ inl low ↦ inr (inl low) | inr high ↦ inr (inr (omega (arith, high))) ]
 
 -- of two stages of one instance one comes before the other, or they are one
-same_instance : (a b : Stage) (m n : ℕ) (ts us : SpecTerms) → instance_in a ≡ instance_in b → is_instance_stage m ts a → is_instance_stage n us b → Ordered a b
+same_instance : (a b : Stage) (m n : ℕ) (ts us : SumOfProducts) → instance_in a ≡ instance_in b → is_instance_stage m ts a → is_instance_stage n us b → Ordered a b
 same_instance (InstanceProduct m r i) (InstanceProduct n s j) x y ts us same is has = products m n r s i j same
 same_instance (InstanceProduct m r i) (InstanceSum n s) x y ts us same is has = product_sum m n r i s
 same_instance (InstanceSum m r) (InstanceProduct n s j) x y ts us same is has = sum_product m n r s j

@@ -8,7 +8,7 @@ use Rattle.poly_mixed.specs.declared.stage.Stage.{Stage}
 use Rattle.poly_mixed.specs.declared.stage.Stage.TheVariants.{Cut, WordProduct, WordSum, SpecProduct, SpecSum, InstanceProduct, InstanceSum}
 use Rattle.stage_model.specs.Stage.{IsOfStage}
 use Rattle.stage_model.proofs.InterpolationLemmas.{of_first, LooksAtFirst}
-use Rattle.spec_expand.specs.Specification.{SpecTerms}
+use Rattle.term_expand.specs.Sums.{SumOfProducts}
 use Rattle.compose_polys.specs.Instance.{block_terms}
 use Rattle.compose_polys.specs.InstanceListing.{instance_stage_of}
 use Rattle.compose_model.specs.Given.{IsGiven}
@@ -30,7 +30,7 @@ same_elements (x ∷ xs) (y ∷ ys) long same =
     ap₂ (λ z zs. z ∷ zs) equal (same_elements xs ys (omega (arith, long)) (λ i less. same (suc i) (omega (arith, less))))
 
 -- a stage at values does not look at the point
-elsewhere : (mul : ℕ → ℕ → ℕ) (ys : List ℕ) (block : SpecTerms) (name : Stage) (p q : Point) (e : ℕ) → instance_stage_of mul (λ r. ys) block name p e → instance_stage_of mul (λ r. ys) block name q e
+elsewhere : (mul : ℕ → ℕ → ℕ) (ys : List ℕ) (block : SumOfProducts) (name : Stage) (p q : Point) (e : ℕ) → instance_stage_of mul (λ r. ys) block name p e → instance_stage_of mul (λ r. ys) block name q e
 elsewhere mul ys block (InstanceProduct n s j) p q e is = record { place = is.place; term = is.term; number = is.number; at = is.at; is = is.is }
 elsewhere mul ys block (InstanceSum n s) p q e is = is
 elsewhere mul ys block (Cut t) p q e is = absurd is

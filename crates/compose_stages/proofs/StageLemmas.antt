@@ -12,7 +12,7 @@ use Rattle.poly_mixed.specs.Polynomial.{value, IsPoint, Point, Terms}
 use Rattle.poly_mixed.specs.declared.stage.Stage.{Stage}
 use Rattle.poly_mixed.specs.declared.stage.Stage.TheVariants.{Cut, WordProduct, WordSum, SpecProduct, SpecSum, InstanceProduct, InstanceSum}
 use Rattle.stage_model.specs.Stage.{HasSize, IsWithin}
-use Rattle.spec_expand.specs.Specification.{SpecTerms}
+use Rattle.term_expand.specs.Sums.{SumOfProducts}
 use Rattle.compose_polys.specs.Instance.{block_terms}
 use Rattle.compose_polys.specs.InstanceListing.{instance_stage_of, is_instance_stage}
 use Rattle.compose_model.specs.Given.{IsGiven}
@@ -33,7 +33,7 @@ use Rattle.compose_stages.proofs.ValueLemmas.{fed_same}
 
 -- ---- names
 
-pub number_of : (name : Stage) (n : ℕ) (block : SpecTerms) → is_instance_stage n block name → instance_in name ≡ n
+pub number_of : (name : Stage) (n : ℕ) (block : SumOfProducts) → is_instance_stage n block name → instance_in name ≡ n
 number_of (InstanceProduct m s j) n block is = is.0
 number_of (InstanceSum m s) n block is = is.0
 number_of (Cut t) n block is = absurd is
@@ -43,7 +43,7 @@ number_of (SpecProduct s j) n block is = absurd is
 number_of (SpecSum s) n block is = absurd is
 
 -- a stage at feeds is one at their values
-at_values : (mul : ℕ → ℕ → ℕ) (feeds : Point → List ℕ) (block : SpecTerms) (name : Stage) (p : Point) (e : ℕ) → instance_stage_of mul feeds block name p e → instance_stage_of mul (λ q. feeds p) block name p e
+at_values : (mul : ℕ → ℕ → ℕ) (feeds : Point → List ℕ) (block : SumOfProducts) (name : Stage) (p : Point) (e : ℕ) → instance_stage_of mul feeds block name p e → instance_stage_of mul (λ q. feeds p) block name p e
 at_values mul feeds block (InstanceProduct m s j) p e is = record { place = is.place; term = is.term; number = is.number; at = is.at; is = is.is }
 at_values mul feeds block (InstanceSum m s) p e is = is
 at_values mul feeds block (Cut t) p e is = absurd is

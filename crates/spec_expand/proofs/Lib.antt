@@ -1,7 +1,4 @@
-pub mod Summed
 pub mod BasisLemmas
-pub mod PowerLemmas
-pub mod SpecValueLemmas
+pub mod BitLemmas
 pub mod StageLemmas
 pub mod StageValueLemmas
-mod Examples

@@ -1,28 +1,23 @@
 -- Each listed stage of a specification has exactly one value at each point.
-use Rattle.std.proofs.Common.{◌≡◌, subst, ℕ, ◌<◌, ◌^◌, List, [], ◌∷◌, take, Some, arith}
-use lib.Bits.{xor_lt}
+use Rattle.std.proofs.Common.{◌≡◌, subst, ℕ, ◌<◌, ◌^◌, List, take, Some, arith}
 use Rattle.std.specs.Prelude.{slice_get}
-use Rattle.std.proofs.lemmas.Nat.{pow_pos}
 use Rattle.poly_mixed.specs.Polynomial.{Point, IsPoint}
 use Rattle.poly_mixed.specs.declared.stage.Stage.{Stage}
 use Rattle.poly_mixed.specs.declared.stage.Stage.TheVariants.{Cut, WordProduct, WordSum, SpecProduct, SpecSum, InstanceProduct, InstanceSum}
 use Rattle.circuit_model.specs.Circuit.{Circuit}
 use Rattle.circuit_model.specs.WellFormed.{IsWellFormed}
+use Rattle.term_expand.proofs.StageLemmas.{sum_in}
 use Rattle.spec_expand.specs.Specification.{SpecTerms}
 use Rattle.spec_expand.specs.SpecValue.{powers_at, spec_at, product_at, factors_of}
 use Rattle.spec_expand.specs.SpecListing.{IsAtPoint, is_spec_stage, spec_stage_of}
 use Rattle.spec_expand.proofs.StageLemmas.{some_at, only_at}
 
 module _ (c : Circuit) (well : IsWellFormed c) where
-  sum_in : (xs : List ℕ) (ts : SpecTerms) → spec_at c.product xs ts < 2 ^ c.k
-  sum_in xs [] = pow_pos c.k
-  sum_in xs (t ∷ ts) = xor_lt c.k (c.product t.0 (powers_at c.product xs t.1)) (spec_at c.product xs ts) (well.ring.closed t.0 (powers_at c.product xs t.1)) (sum_in xs ts)
-
   pub some_stage : (spec : SpecTerms) (name : Stage) (p : Point) → IsPoint c.k p → is_spec_stage spec name → (e : ℕ) × spec_stage_of c spec name p e × (e < 2 ^ c.k)
   some_stage spec (SpecProduct s j) p at is =
       let found = some_at c well (λ xs. product_at c.product xs is.term j) p at (λ xs input. well.ring.closed is.term.0 (powers_at c.product xs (take j (factors_of is.term.1)))) in
       (found.0, record { place = is.place; term = is.term; number = is.number; at = is.at; is = found.1 }, found.2)
-  some_stage spec (SpecSum s) p at is = some_at c well (λ xs. spec_at c.product xs (take s spec)) p at (λ xs input. sum_in xs (take s spec))
+  some_stage spec (SpecSum s) p at is = some_at c well (λ xs. spec_at c.product xs (take s spec)) p at (λ xs input. sum_in c.k c.product well.ring xs (take s spec))
   some_stage spec (Cut t) p at is = absurd is
   some_stage spec (WordProduct w s j) p at is = absurd is
   some_stage spec (WordSum w s) p at is = absurd is

@@ -7,8 +7,9 @@ use Rattle.poly_mixed.specs.declared.stage.Stage.TheVariants.{Cut, WordProduct, 
 use Rattle.circuit_model.specs.Circuit.{Circuit, IsInput}
 use Rattle.stage_model.specs.InputPoint.{IsAtInput}
 use Rattle.stage_model.specs.Listing.{Listing, Nothing, AreAllWithin, IsRefusal}
+use Rattle.term_expand.specs.SumListing.{HasFactor}
 use Rattle.spec_expand.specs.Specification.{SpecTerms}
-use Rattle.spec_expand.specs.SpecValue.{spec_at, factors_of, product_at}
+use Rattle.spec_expand.specs.SpecValue.{spec_at, product_at}
 
 -- a function of the input as a stage: the point is related to its value at the input whose bits the point has
 pub record IsAtPoint (circuit : Circuit) (h : List ℕ → ℕ) (p : Point) (e : ℕ) : Type 0 where
@@ -24,15 +25,6 @@ pub record IsSpecProduct (circuit : Circuit) (spec : SpecTerms) (s j : ℕ) (p :
   pub number : place + 1 ≡ s
   pub at : slice_get spec place ≡ Some term
   pub is : IsAtPoint circuit (λ xs. product_at circuit.product xs term j) p e
-
--- term s exists, counted from 1, and has a factor j
-pub record HasFactor (spec : SpecTerms) (s j : ℕ) : Type 0 where
-  pub place : ℕ
-  pub term : ℕ × List (ℕ × ℕ)
-  pub number : place + 1 ≡ s
-  pub at : slice_get spec place ≡ Some term
-  pub some : 1 ≤ j
-  pub most : j ≤ length (factors_of term.1)
 
 -- the names of the product and sum stages
 abbrev pub is_spec_stage : SpecTerms → Stage → Type 0

@@ -1,34 +1,3 @@
--- The value of a specification at an input. Source: this project's own.
-use Rattle.std.specs.Prelude.{ℕ, zero, suc, ◌+◌, ◌^◌, ◌/◌, ◌%◌, cond, List, [], ◌∷◌, ◌++◌, take, slice_index, bit_xor, ◌==◌}
-use Rattle.gf_field.specs.Power.{power}
-use Rattle.spec_expand.specs.Specification.{SpecTerms}
-
-module _ (mul : ℕ → ℕ → ℕ) (xs : List ℕ) where
-  -- the product of each named word's element to its exponent
-  abbrev pub powers_at : List (ℕ × ℕ) → ℕ
-  powers_at [] = 1
-  powers_at (p ∷ ps) = mul (power mul (slice_index xs p.0) p.1) (powers_at ps)
-
-  -- the sum over the terms of the coefficient times the powers
-  abbrev pub spec_at : SpecTerms → ℕ
-  spec_at [] = 0
-  spec_at (t ∷ ts) = bit_xor (mul t.0 (powers_at t.1)) (spec_at ts)
-
--- the j that are 1 in the binary digits of an exponent below 2^n, from the lowest on, counted from `first`
-abbrev pub ones_of : ℕ → ℕ → ℕ → List ℕ
-ones_of zero first e = []
-ones_of (suc n) first e = cond (e % 2 == 1) (first ∷ ones_of n (first + 1) (e / 2)) (ones_of n (first + 1) (e / 2))
-
--- the word to the powers 2^j
-abbrev pub factors_with : ℕ → List ℕ → List (ℕ × ℕ)
-factors_with w [] = []
-factors_with w (j ∷ js) = (w, 2 ^ j) ∷ factors_with w js
-
--- the factors of a term: for each pair in order and each binary one j of its exponent the word to the power 2^j
-abbrev pub factors_of : List (ℕ × ℕ) → List (ℕ × ℕ)
-factors_of [] = []
-factors_of (p ∷ ps) = factors_with p.0 (ones_of 64 0 p.1) ++ factors_of ps
-
--- the coefficient times the first j factors
-abbrev pub product_at : (ℕ → ℕ → ℕ) → List ℕ → ℕ × List (ℕ × ℕ) → ℕ → ℕ
-product_at mul xs t j = mul t.0 (powers_at mul xs (take j (factors_of t.1)))
+-- The value of a specification at an input: that of its sum of products, where the input's elements stand for the words.
+-- Source: this project's own.
+pub use Rattle.term_expand.specs.SumValue.{powers_at, sum_at as spec_at, factors_of, product_at}

@@ -1,10 +1,11 @@
 -- What a specification says: terms, each a coefficient and powers of words. Source: this project's own.
 use Rattle.std.specs.Prelude.{ℕ, ◌<◌, ◌^◌, List}
 use Rattle.std.specs.List.{AllByRecursion}
+use Rattle.term_expand.specs.Sums.{SumOfProducts}
 
 -- a coefficient, and pairs of a word's number and an exponent
 abbrev pub SpecTerms : Type 0
-SpecTerms = List (ℕ × List (ℕ × ℕ))
+SpecTerms = SumOfProducts
 
 -- the coefficient is an element of a field of 2^k elements, each power is of one of so many words, and exponents are below 2^64
 pub record IsTermOver (k words : ℕ) (t : ℕ × List (ℕ × ℕ)) : Type 0 where

@@ -1,29 +1,24 @@
 //! A specification as a polynomial in the bits of input, state and fed words.
-ghost use Rattle.std.specs.Prelude.{◌≡◌, ◌<◌, ◌+◌, ◌^◌, length, take, slice_get, Some, IfOk, IfErr, OnOk};
+ghost use Rattle.std.specs.Prelude.{◌≡◌, ◌<◌, ◌++◌, ◌∷◌, [], length, map, slice_get, slice_index, Some, IfOk, IfErr, OnOk};
 ghost use Rattle.gf_basis.specs.BasisParts.{elements_of, IsBasisOver};
 ghost use Rattle.circuit_model.specs.Bases.{AreBases, circuit_in};
-ghost use Rattle.spec_expand.specs.Specification.{IsTermOver, IsOverWords};
-ghost use Rattle.spec_expand.specs.SpecValue.{factors_of};
-ghost use Rattle.spec_expand.specs.private.Expanding.{IsSetting, IsReached, IsTermRefusal, HasBasisAt, IsAllReached};
+ghost use Rattle.circuit_model.specs.WellFormed.{IsWellFormed};
+ghost use Rattle.term_expand.specs.Feeds.{borrowed_terms};
+ghost use Rattle.spec_expand.specs.Specification.{IsOverWords};
+ghost use Rattle.spec_expand.specs.private.Expanding.{AreWordsInBits, IsOfInput, IsSetting, HasBasisAt};
 ghost use Rattle.spec_expand.specs.Expanded.{IsSpecExpansion};
 ghost use Rattle.spec_expand.specs.SpecListing.{IsSpecRefusal, IsSpecWithin};
 
-use crate::ones::ones;
-use crate::power::power_of_word;
-use crate::{Spec, SpecTerm};
+use crate::Spec;
+use crate::bits::word_in_bits;
+use crate::names::fault_of;
 use circuit_model::word_places;
 use gf_basis::Basis;
 use gf_field::Field;
 use net_words::Combinational;
-use poly_mixed::{Poly, ReduceFault, Stage, check_size, constant};
-use std::alloc::Global;
-
-// The product of a term's coefficient and its first factors, and how many these are.
-#[derive(Drop)]
-struct Reached {
-    poly: Poly,
-    factors: u32,
-}
+use poly_mixed::{Poly, ReduceFault};
+use std::alloc::{AllocError, Global};
+use term_expand::expand_sum;
 
 // The number of an input, state or fed word among all words.
 fn place_at(places: &[u32], word: u32) -> u32
@@ -50,119 +45,84 @@ fn basis_of<'a, F: Field>(
     &bases[place as usize]
 }
 
-// One factor more: a word to the power 2^j.
-fn one_factor<F: Field>(
+// An input, state or fed word in its bits.
+fn own_word<F: Field>(
     alloc: Global,
     field: &F,
     circuit: &Combinational,
     bases: &[Basis],
     places: &[u32],
-    _term: &SpecTerm,
-    number: u32,
     word: u32,
-    j: u32,
-    bound: u32,
-    reached: &mut Reached,
-) -> Result<(), ReduceFault>
+) -> Result<Poly, AllocError>
     requires setting { IsSetting (F.degree field.now) (F.product field.now) circuit.now bases.now places.now }
     requires word { word < length (circuit_in (F.degree field.now) (F.product field.now) circuit.now bases.now).words }
-    requires factor { slice_get (factors_of _term.now.1) reached.old.factors ≡ Some (word, 2 ^ j) }
-    requires few { length (factors_of _term.now.1) < 2 ^ 32 }
-    requires reached { IsReached (circuit_in (F.degree field.now) (F.product field.now) circuit.now bases.now) _term.now bound reached.old.factors reached.old.poly.terms }
-    ensures factors { OnOk result (reached.new.factors ≡ reached.old.factors + 1) }
-    ensures reached { OnOk result (IsReached (circuit_in (F.degree field.now) (F.product field.now) circuit.now bases.now) _term.now bound reached.new.factors reached.new.poly.terms) }
-    ensures fault { IfErr result (IsTermRefusal (circuit_in (F.degree field.now) (F.product field.now) circuit.now bases.now) _term.now number bound) }
+    ensures { IfOk result (λ q. IsOfInput (circuit_in (F.degree field.now) (F.product field.now) circuit.now bases.now) (λ xs. slice_index xs word) q.terms) }
 {
     let basis = basis_of(field, circuit, bases, places, word);
-    let power = power_of_word(alloc, field, basis, word, j)?;
-    let product = reached.poly.mul(alloc, field, &power)?;
-    let factor = reached.factors + 1;
-    let stage = Stage::SpecProduct {
-        term: number,
-        factor,
-    };
-    check_size(product.len(), bound, stage)?;
-    reached.poly = product;
-    reached.factors = factor;
-    Ok(())
+    let poly = word_in_bits(alloc, field, basis, word)?;
+    Ok(poly)
 }
 
-// The pair of a word and an exponent at a place of a term.
-fn pair_at(term: &SpecTerm, pair: usize) -> (u32, u64)
-    requires { pair < length term.now.1 }
-    ensures { slice_get term.now.1 pair ≡ Some (result.0, result.1) }
-{
-    let powers = term.powers();
-    powers[pair]
-}
-
-// The factors of one pair of a word and an exponent.
-fn one_pair<F: Field>(
+// The input, state and fed words in their bits.
+fn words_in_bits<F: Field>(
     alloc: Global,
     field: &F,
     circuit: &Combinational,
     bases: &[Basis],
     places: &[u32],
-    term: &SpecTerm,
-    number: u32,
-    pair: usize,
-    bound: u32,
-    reached: &mut Reached,
-) -> Result<(), ReduceFault>
-    requires setting { IsSetting (F.degree field.now) (F.product field.now) circuit.now bases.now places.now }
-    requires over { IsTermOver (F.degree field.now) (length (circuit_in (F.degree field.now) (F.product field.now) circuit.now bases.now).words) term.now }
-    requires pair { pair < length term.now.1 }
-    requires few { length (factors_of term.now.1) < 2 ^ 32 }
-    requires factors { reached.old.factors ≡ length (factors_of (take pair term.now.1)) }
-    requires reached { IsReached (circuit_in (F.degree field.now) (F.product field.now) circuit.now bases.now) term.now bound reached.old.factors reached.old.poly.terms }
-    ensures factors { OnOk result (reached.new.factors ≡ length (factors_of (take (pair + 1) term.now.1))) }
-    ensures reached { OnOk result (IsReached (circuit_in (F.degree field.now) (F.product field.now) circuit.now bases.now) term.now bound reached.new.factors reached.new.poly.terms) }
-    ensures fault { IfErr result (IsTermRefusal (circuit_in (F.degree field.now) (F.product field.now) circuit.now bases.now) term.now number bound) }
+) -> Result<Vec<Poly>, AllocError>
+    requires { IsSetting (F.degree field.now) (F.product field.now) circuit.now bases.now places.now }
+    ensures { IfOk result (λ polys. AreWordsInBits (circuit_in (F.degree field.now) (F.product field.now) circuit.now bases.now) (map (λ q. q.terms) polys.items)) }
 {
-    let (word, exponent) = pair_at(term, pair);
-    let ones = ones(alloc, exponent)?;
-    for m in 0..ones.len() {
-        one_factor(
-            alloc, field, circuit, bases, places, term, number, word, ones[m], bound, reached,
-        )?;
+    let mut polys = Vec::new(alloc);
+    for word in 0..places.len() {
+        let poly = own_word(alloc, field, circuit, bases, places, word as u32)?;
+        polys.push(poly)?;
     }
+    Ok(polys)
+}
+
+// Adds a polynomial.
+fn add_poly<'a>(list: &mut Vec<&'a Poly>, poly: &'a Poly) -> Result<(), AllocError>
+    ensures { OnOk result (map (λ f. f.now.terms) list.new.items ≡ map (λ f. f.now.terms) list.old.items ++ poly.now.terms ∷ []) }
+{
+    list.push(poly)?;
     Ok(())
 }
 
-// The product of a term with all its factors.
-fn one_term<F: Field>(
+// The polynomials, borrowed one by one.
+fn borrowed<'a>(alloc: Global, polys: &'a [Poly]) -> Result<Vec<&'a Poly>, AllocError>
+    ensures { IfOk result (λ list. borrowed_terms list.items ≡ map (λ q. q.terms) polys.now) }
+{
+    let mut list = Vec::new(alloc);
+    for i in 0..polys.len() {
+        add_poly(&mut list, &polys[i])?;
+    }
+    Ok(list)
+}
+
+// The polynomial of a specification where these are the words in their bits.
+fn expand_over<F: Field>(
     alloc: Global,
     field: &F,
-    circuit: &Combinational,
-    bases: &[Basis],
-    places: &[u32],
-    term: &SpecTerm,
-    number: u32,
+    spec: &Spec,
+    _circuit: &Combinational,
+    _bases: &[Basis],
+    words: &[Poly],
     bound: u32,
 ) -> Result<Poly, ReduceFault>
-    requires setting { IsSetting (F.degree field.now) (F.product field.now) circuit.now bases.now places.now }
-    requires over { IsTermOver (F.degree field.now) (length (circuit_in (F.degree field.now) (F.product field.now) circuit.now bases.now).words) term.now }
-    ensures reached { IfOk result (λ q. IsAllReached (circuit_in (F.degree field.now) (F.product field.now) circuit.now bases.now) term.now bound q.terms) }
-    ensures fault { IfErr result (IsTermRefusal (circuit_in (F.degree field.now) (F.product field.now) circuit.now bases.now) term.now number bound) }
+    requires well { IsWellFormed (circuit_in (F.degree field.now) (F.product field.now) _circuit.now _bases.now) }
+    requires spec { IsOverWords (F.degree field.now) (length words.now) spec.now }
+    requires words { AreWordsInBits (circuit_in (F.degree field.now) (F.product field.now) _circuit.now _bases.now) (map (λ q. q.terms) words.now) }
+    ensures polynomial { IfOk result (λ q. IsSpecExpansion (circuit_in (F.degree field.now) (F.product field.now) _circuit.now _bases.now) spec.now q.terms) }
+    ensures within { OnOk result (IsSpecWithin (circuit_in (F.degree field.now) (F.product field.now) _circuit.now _bases.now) spec.now bound) }
+    ensures fault { IfErr result (IsSpecRefusal (circuit_in (F.degree field.now) (F.product field.now) _circuit.now _bases.now) spec.now bound) }
 {
-    let powers = term.powers();
-    let poly = constant(alloc, field, term.coefficient())?;
-    let mut reached = Reached { poly, factors: 0 };
-    for pair in 0..powers.len() {
-        one_pair(
-            alloc,
-            field,
-            circuit,
-            bases,
-            places,
-            term,
-            number,
-            pair,
-            bound,
-            &mut reached,
-        )?;
+    let feeds = borrowed(alloc, words)?;
+    match expand_sum(alloc, field, spec.terms(), &feeds, bound) {
+        Ok(poly) => Ok(poly),
+        Err(fault) => Err(fault_of(fault)),
     }
-    Ok(reached.poly)
 }
 
 /// The polynomial of a specification in the bits of a circuit's input, state and fed words, or the first stage over the
@@ -189,14 +149,6 @@ pub fn expand<F: Field>(
     ensures fault { IfErr result (IsSpecRefusal (circuit_in (F.degree field.now) (F.product field.now) circuit.now bases.now) spec.now bound) }
 {
     let places = word_places(alloc, circuit.binding())?;
-    let terms = spec.terms();
-    let mut sum = Poly::zero(alloc);
-    for s in 0..terms.len() {
-        let term = &terms[s];
-        let number = s as u32 + 1;
-        let product = one_term(alloc, field, circuit, bases, &places, term, number, bound)?;
-        sum.add_into(field, &product)?;
-        check_size(sum.len(), bound, Stage::SpecSum { term: number })?;
-    }
-    Ok(sum)
+    let words = words_in_bits(alloc, field, circuit, bases, &places)?;
+    expand_over(alloc, field, spec, circuit, bases, &words, bound)
 }

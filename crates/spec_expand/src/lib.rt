@@ -2,12 +2,13 @@
 //! of each stage. What a specification says is such a sum; `spec_text` reads it.
 #![tactic(auto)]
 
+mod bits;
 mod expanding;
 mod laws;
-mod ones;
-mod power;
+mod names;
 mod spec;
 
 pub use expanding::expand;
 pub use laws::stages_have_values;
-pub use spec::{Spec, SpecTerm};
+pub use spec::Spec;
+pub use term_expand::SumTerm as SpecTerm;

@@ -1,7 +1,0 @@
-use Rattle.std.proofs.Common.{take}
-use Rattle.poly_mixed.specs.Polynomial.{value, IsPolynomialOf}
-use Rattle.compose_polys.specs.private.Square.{square_of}
-use Rattle.compose_polys.proofs.square.squared.Given as goal
-
-abbrev pub invariant-loop-i : goal.invariant-loop-i
-invariant-loop-i g l = IsPolynomialOf (g.F.Ring.degree l.field) (g.F.Ring.product l.field) (λ p. square_of (g.F.Ring.product l.field) (value (g.F.Ring.product l.field) p (take l.i l.poly.terms))) l.sum.terms

@@ -1,0 +1,5 @@
+pub mod Sums
+pub mod SumValue
+pub mod Feeds
+pub mod SumListing
+pub mod private
