@@ -2,3 +2,4 @@ pub mod MakeLemmas
 pub mod TrialLemmas
 pub mod SettingFieldLemmas
 pub mod MadeLemmas
+pub mod MadeTextLemmas

@@ -144,7 +144,7 @@ module _ (setting : SettingValue) (text : List ℕ) (is : SettingOf text (Ok set
   words : List WordText
   words = setting.signature.words
 
-  wide : (kind : Kind) → IsUnfed kind → HasFormOf setting kind → AllWide setting.k setting.signature.words
+  pub wide : (kind : Kind) → IsUnfed kind → HasFormOf setting kind → AllWide setting.k setting.signature.words
   wide kind unfed form = unfed_wide setting.k setting.signature.words fit.words (form_unfed setting kind unfed form)
 
   poly_bases : AllPoly setting.signature.words → setting.bases ≡ same_bases (first_values setting.k (λ i. 2 ^ i)) setting.signature.words

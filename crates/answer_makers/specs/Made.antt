@@ -1,6 +1,6 @@
 -- What the netlists that `make` prints compute. Sources: of each kind's netlist, those of its maker.
 use Rattle.std.specs.Prelude.{◌≡◌, ℕ, ◌*◌, ◌<◌, ◌^◌, List, [], ◌∷◌, bit_xor, Some, Ok}
-use Rattle.job_io.specs.Shelf.{Files}
+use Rattle.job_io.specs.Shelf.{Files, Has}
 use Rattle.circuit_model.specs.Circuit.{Circuit}
 use Rattle.circuit_model.specs.Out.{IsOut}
 use Rattle.make_laws.specs.InversePower.{IsInversePower}
@@ -17,7 +17,7 @@ pub record HoldMade (files others : Files) (signature net : Word) (text : List �
   pub bytes : List ℕ
   pub signature_read : Read (Some files) signature (Ok bytes)
   pub signature_too : Read (Some others) signature (Ok bytes)
-  pub net_read : Read (Some others) net (Ok text)
+  pub net_held : Has (Some others) net text
   pub name : IsBlifName net
 
 -- the output is a function of the elements of the job's two words

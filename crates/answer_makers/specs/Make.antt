@@ -1,5 +1,6 @@
 -- The command `make`: a netlist of a kind that is made for a signature. Sources: of each kind's netlist, those of its maker.
-use Rattle.std.specs.Prelude.{◌≡◌, ℕ, ◌*◌, ◌/◌, ◌<◌, ◌^◌, List, [], ◌∷◌, length, Ok, Err}
+use Rattle.std.specs.Prelude.{◌≡◌, ℕ, ◌*◌, ◌/◌, ◌<◌, ◌≤◌, ◌^◌, List, [], ◌∷◌, length, Ok, Err}
+use Rattle.lists.specs.Limits.{most_bytes}
 use Rattle.outcome.specs.Outcome.{Outcome, ◌>>=◌, Exactly}
 use Rattle.irreducible.specs.Span.{IsIndependent}
 use Rattle.gf_basis.specs.BasisFault.{conjugates_of}
@@ -96,3 +97,7 @@ abbrev pub MakeAnswer : SettingValue → Kind → Outcome Fault Reply
 MakeAnswer setting kind = do
   net ← MadeOf setting kind
   Exactly (record { status = 0; text = written net })
+
+-- the net list's text in BLIF is no longer than a file may be
+abbrev pub FitsFile : NetList → Type 0
+FitsFile net = length (written net) ≤ most_bytes

@@ -3,19 +3,15 @@ ghost use Rattle.std.specs.Prelude.{◌≡◌, ◌++◌, length, IfOk, OnOk};
 ghost use Rattle.std.specs.Fmt.{decimal};
 ghost use Rattle.gf_field.specs.Ring2k.{degree_of, modulus_of};
 ghost use Rattle.irreducible.specs.Proved.{ring_of};
-ghost use Rattle.circuit_model.specs.Differing.{AreSame};
-ghost use Rattle.circuit_model.specs.Out.{IsOut};
 ghost use Rattle.circuit_model.specs.WellFormed.{IsWellFormed};
 ghost use Rattle.stage_model.specs.OutputInBits.{IsOutputInBits};
 ghost use Rattle.spec_expand.specs.Specification.{IsOverWords};
 ghost use Rattle.job_words.specs.Stop.{GivesBy};
 ghost use Rattle.job_input.specs.Labelling.{labels_of};
 ghost use Rattle.job_input.specs.Setting.{IsReady, IsTakenFor, setting_value};
-ghost use Rattle.make_trial.specs.Trial.{trial_index as trial_index_of, trial_place as trial_place_of};
-ghost use Rattle.answer_core.specs.Reply.{reply_of};
 ghost use Rattle.answer_core.specs.Abstraction.{taken_circuit};
-ghost use Rattle.answer_core.specs.Judged.{IsSpecified};
-ghost use Rattle.answer_makers.specs.Trial.{TermsOf, TrialAnswer, TrialBeside, TrialOver, TrialReply, trial_head as head_of_trial};
+ghost use Rattle.answer_core.specs.Replies.{RepliesAlone};
+ghost use Rattle.answer_makers.specs.Trial.{MissesSpecification, TermsOf, TrialAnswer, TrialBesideTo, TrialOver, TrialReplyTo, trial_head_over as head_of_trial};
 
 use answer_core::{
     Output, add_difference, copied, in_words, labels, last_cut, stage_stop, verdict,
@@ -41,7 +37,7 @@ struct Counted {
 
 /// What the command answers.
 pub fn answer(alloc: Global, words: &TrialWords) -> Result<Output, Stop>
-    ensures { GivesBy reply_of result (TrialAnswer words.now.number words.now.modulus words.now.terms) ⊥ ⊥ }
+    ensures { RepliesAlone result (TrialAnswer words.now.number words.now.modulus words.now.terms) }
 {
     match field_of_modulus(words.modulus) {
         Ok(ring) => over(alloc, &ring, words),
@@ -51,7 +47,7 @@ pub fn answer(alloc: Global, words: &TrialWords) -> Result<Output, Stop>
 
 // The answer over the field of the modulus: the multiplier with its bit turned, beside the product.
 fn over(alloc: Global, ring: &Proved<Ring2k>, words: &TrialWords) -> Result<Output, Stop>
-    ensures { GivesBy reply_of result (TrialOver (degree_of (ring_of ring.now)) (modulus_of (ring_of ring.now)) words.now.number words.now.terms) ⊥ ⊥ }
+    ensures { RepliesAlone result (TrialOver (degree_of (ring_of ring.now)) (modulus_of (ring_of ring.now)) words.now.number words.now.terms) }
 {
     let setting = trial_setting(alloc, ring)?;
     let circuit = trial_circuit(alloc, ring, &setting, words.number)?;
@@ -74,8 +70,8 @@ fn reply<F: Field>(
     requires taken { IsTakenFor (F.degree field.now) setting.now circuit.now }
     requires labels { labels.now ≡ labels_of (F.degree field.now) setting.now.signature.words }
     requires spec { IsOverWords (F.degree field.now) (length labels.now.words) spec.now }
-    requires apart { AreSame (taken_circuit (setting_value (F.degree field.now) (F.product field.now) setting.now) circuit.now) (IsOut (taken_circuit (setting_value (F.degree field.now) (F.product field.now) setting.now) circuit.now)) (IsSpecified (setting_value (F.degree field.now) (F.product field.now) setting.now) (taken_circuit (setting_value (F.degree field.now) (F.product field.now) setting.now) circuit.now) spec.now) → ⊥ }
-    ensures { GivesBy reply_of result (TrialReply (setting_value (F.degree field.now) (F.product field.now) setting.now) circuit.now spec.now words.now.number words.now.terms) ⊥ ⊥ }
+    requires apart { MissesSpecification (setting_value (F.degree field.now) (F.product field.now) setting.now) circuit.now spec.now }
+    ensures { RepliesAlone result (TrialReplyTo (setting_value (F.degree field.now) (F.product field.now) setting.now) circuit.now spec.now words.now) }
 {
     match count_words(alloc, field, setting, labels, circuit, words.terms) {
         Ok(counted) => beside(
@@ -132,8 +128,8 @@ fn beside<F: Field>(
     requires spec { IsOverWords (F.degree field.now) (length labels.now.words) spec.now }
     requires well { IsWellFormed (taken_circuit (setting_value (F.degree field.now) (F.product field.now) setting.now) circuit.now) }
     requires output { IsOutputInBits (taken_circuit (setting_value (F.degree field.now) (F.product field.now) setting.now) circuit.now) counted.now.bits.terms }
-    requires apart { AreSame (taken_circuit (setting_value (F.degree field.now) (F.product field.now) setting.now) circuit.now) (IsOut (taken_circuit (setting_value (F.degree field.now) (F.product field.now) setting.now) circuit.now)) (IsSpecified (setting_value (F.degree field.now) (F.product field.now) setting.now) (taken_circuit (setting_value (F.degree field.now) (F.product field.now) setting.now) circuit.now) spec.now) → ⊥ }
-    ensures { GivesBy reply_of result (TrialBeside (setting_value (F.degree field.now) (F.product field.now) setting.now) circuit.now spec.now words.now.number words.now.terms counted.now.terms) ⊥ ⊥ }
+    requires apart { MissesSpecification (setting_value (F.degree field.now) (F.product field.now) setting.now) circuit.now spec.now }
+    ensures { RepliesAlone result (TrialBesideTo (setting_value (F.degree field.now) (F.product field.now) setting.now) circuit.now spec.now words.now counted.now.terms) }
 {
     let bits = &counted.bits;
     match verdict(
@@ -167,7 +163,7 @@ fn head<F: Field>(
     number: u64,
     terms: usize,
 ) -> Result<Vec<u8>, AllocError>
-    ensures { IfOk result (λ text. text.items ≡ head_of_trial setting.now.signature.modulus (length circuit.now.net.gates) (trial_place_of (F.degree field.now) number) (trial_index_of (F.degree field.now) number) terms) }
+    ensures { IfOk result (λ text. text.items ≡ head_of_trial (F.degree field.now) setting.now.signature.modulus circuit.now number terms) }
 {
     let k = field.k();
     let gates = circuit.net().gates().len();

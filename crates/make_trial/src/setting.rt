@@ -5,8 +5,8 @@ ghost use Rattle.gf_field.specs.Quotient.{product};
 ghost use Rattle.gf_field.specs.Ring2k.{degree_of, modulus_of};
 ghost use Rattle.irreducible.specs.Proved.{ring_of};
 ghost use Rattle.job_words.specs.declared.stop.Stop.TheVariants.{OutOfMemory};
-ghost use Rattle.job_input.specs.Setting.{IsReady, setting_value};
-ghost use Rattle.make_trial.specs.Trial.{trial_setting as setting_of};
+ghost use Rattle.job_input.specs.Setting.{IsReady};
+ghost use Rattle.make_trial.specs.Trial.{IsTrialSetting};
 
 use crate::inputs::two_inputs;
 use gf_field::{Ring, Ring2k};
@@ -17,7 +17,7 @@ use std::alloc::{AllocError, Global};
 
 /// The setting over this field: input words A and B and an output word Z in the basis of powers.
 pub fn trial_setting(alloc: Global, ring: &Proved<Ring2k>) -> Result<Setting, AllocError>
-    ensures value { IfOk result (λ setting. setting_value (degree_of (ring_of ring.now)) (product 1 (degree_of (ring_of ring.now)) bit_mul (modulus_of (ring_of ring.now))) setting ≡ setting_of (degree_of (ring_of ring.now)) (modulus_of (ring_of ring.now))) }
+    ensures value { IfOk result (λ setting. IsTrialSetting (degree_of (ring_of ring.now)) (modulus_of (ring_of ring.now)) setting) }
     ensures ready { IfOk result (λ setting. IsReady (degree_of (ring_of ring.now)) (product 1 (degree_of (ring_of ring.now)) bit_mul (modulus_of (ring_of ring.now))) setting) }
 {
     let signature = two_inputs(alloc, ring.k(), ring.ring().modulus())?;

@@ -4,5 +4,6 @@ pub mod SumLemmas
 pub mod ShapeLemmas
 pub mod RoomLemmas
 pub mod ListLemmas
+pub mod TwoLemmas
 pub mod MadeLemmas
 pub mod Examples

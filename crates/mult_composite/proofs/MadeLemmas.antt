@@ -1,6 +1,7 @@
 -- The multiplier over the words of a signature.
 use Rattle.std.proofs.Common.{◌≡◌, ◌∙◌, ap, sym, refl, subst, ℕ, ◌<◌, ◌≤◌, ◌+◌, ◌*◌, ◌-◌, ◌^◌, Bool, List, [], length, take, drop, arith, mul_comm, mul_assoc}
 use Rattle.std.proofs.Math.Nat.{mul-add}
+use Rattle.lists.specs.Limits.{most_bytes}
 use Rattle.lists.specs.Lists.{Has}
 use Rattle.lists.specs.laws.HasLaws.{Has_left, Has_right}
 use Rattle.lists.specs.laws.NumberLaws.{mul_few}
@@ -19,6 +20,7 @@ use Rattle.make_laws.specs.TowerProduct.{HasTowerBits}
 use Rattle.net_core.specs.Sound.{IsSound}
 use Rattle.net_core.specs.Value.{index_of, IsConsistent}
 use Rattle.net_write.specs.Plain.{HasPlainNames}
+use Rattle.net_write.specs.Written.{written}
 use Rattle.net_words.specs.declared.word.Role.TheVariants.{Input, Output}
 use Rattle.net_words.specs.declared.word.WordText.{WordText}
 use Rattle.make_nets.specs.Computes.{ComputesOfTwo}
@@ -38,17 +40,19 @@ use Rattle.make_nets.proofs.SharedLemmas.{index_bits}
 use Rattle.mult_gen.specs.Form.{inputs_in, outer_of, outputs_in}
 use Rattle.mult_gen.proofs.PlanLemmas.{agrees_of, drop_long, held, outputs_long, plan_for, take_long}
 use Rattle.mult_gen.proofs.PolyLemmas.{index_is, powers_basis}
+use Rattle.mult_gen.proofs.ShortLemmas.{short_plan, text_fits}
 use Rattle.mult_composite.specs.Form.{made_composite, plan_of_words}
 use Rattle.mult_composite.proofs.RoomLemmas.{low_few, size_few}
 use Rattle.mult_composite.proofs.ShapeLemmas.{composite_made}
 use Rattle.mult_composite.proofs.SumLemmas.{composite_bits}
+use Rattle.mult_composite.proofs.TwoLemmas.{composite_two}
 
 -- squares of products
 split : (m n w : ℕ) → m * m * (n * w) ≡ m * n * (m * w)
 split m n w = mul_assoc m m (n * w) ∙ ap (λ v. m * v) (sym (mul_assoc m n w) ∙ ap (λ v. v * w) (mul_comm m n) ∙ mul_assoc n m w) ∙ sym (mul_assoc m n (m * w))
 
 -- how many inner nets there are at most
-pub most_few : (n m : ℕ) → n ≤ 32 → m ≤ 64 → n * m ≤ 64 → m * m * (n * n + n * (n * n + 1)) + (2 * m - 1) * n * (m + 1) + m * n * ((m - 1) * n + 2) ≤ 160000
+pub most_few : (n m : ℕ) → n ≤ 32 → m ≤ 64 → n * m ≤ 64 → m * m * (n * n + n * (n * n + 1)) + (2 * m - 1) * n * (m + 1) + m * n * ((m - 1) * n + 2) ≤ 151808
 most_few n m small few fits = omega (arith, mul-add (m * m) (n * n) (n * (n * n + 1)), first, second, third, fourth)
   where
     k : m * n ≤ 64
@@ -104,11 +108,14 @@ module _ (n g m t : ℕ) (ok : IsModulus n g) (two : 2 ≤ m) (low : n ≤ 32) (
   out : IsMadeOutput (outer_of words) (inputs_in words) (outer_of words) (m * m * (n * n + n * (n * n + 1)) + (2 * m - 1) * n * (m + 1) + m * n * ((m - 1) * n + 2)) (outputs_in words) (plan_of_words n g m t words)
   out = composite_made (outer_of words) (inputs_in words) n g m ok.some two a b long_a long_b in_a in_b t (outputs_in words) turned_z (λ net there. omega (arith, (role_low Output 0 words net there).1))
 
+  next_few : (plan_of_words n g m t words).next ≤ outer_of words + 151808
+  next_few = omega (arith, out.high, most_few n m low few_m small)
+
   few : (plan_of_words n g m t words).next + n * m ≤ 2 ^ 20
   few =
       let outer : outer_of words ≡ length words * (n * m) = names_long (n * m) words wide in
       let three : length words * (n * m) ≡ 3 * (n * m) = ap (λ c. c * (n * m)) has.all in
-      omega (arith, out.high, most_few n m low few_m small, outer, three, small)
+      omega (arith, next_few, outer, three, small)
 
   pub fits : IsPlanFor words [] [] (outputs_in words) (plan_of_words n g m t words)
   fits = plan_for 2 (n * m) words has wide (plan_of_words n g m t words) out.made few
@@ -116,6 +123,11 @@ module _ (n g m t : ℕ) (ok : IsModulus n g) (two : 2 ≤ m) (low : n ≤ 32) (
   module _ (names : AreMakerNames (outer_names words [])) where
     pub sound : IsSound (made_composite n g m t words)
     sound = made_sound words [] [] (outputs_in words) (plan_of_words n g m t words) names fits
+
+    pub text : length (written (made_composite n g m t words)) ≤ most_bytes
+    text =
+        text_fits 2 (n * m) words has wide small (plan_of_words n g m t words) fits (omega arith) names
+        (short_plan 2 (n * m) words has wide small (plan_of_words n g m t words) fits (composite_two (outer_of words) n g m t a b (outputs_in words)) (omega (arith, next_few)))
 
     pub plain : HasPlainNames (made_composite n g m t words)
     plain = made_plain words [] [] (outputs_in words) (plan_of_words n g m t words) names fits
@@ -162,6 +174,9 @@ module _ (n d m s g low : ℕ) (cs : List ℕ) (is_degree : n ≡ d) (is_size : 
   module _ (names : AreMakerNames (outer_names words [])) where
     pub tower_sound : IsSound (made_composite n g m (tower_polynomial n cs) words)
     tower_sound = sound n g m t modulus packed.two low_n few_m packed.small words has wide names
+
+    pub tower_text : length (written (made_composite n g m (tower_polynomial n cs) words)) ≤ most_bytes
+    tower_text = text n g m t modulus packed.two low_n few_m packed.small words has wide names
 
     pub tower_plain : HasPlainNames (made_composite n g m (tower_polynomial n cs) words)
     tower_plain = plain n g m t modulus packed.two low_n few_m packed.small words has wide names

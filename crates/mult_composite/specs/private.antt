@@ -1,1 +1,2 @@
 pub mod HighPowers
+pub mod ByPowers

@@ -1,14 +1,13 @@
 //! The nets that are added for a bit of the product in a tower.
-ghost use Rattle.std.specs.Prelude.{◌≡◌, ℕ, ◌+◌, ◌*◌, ◌-◌, ◌<◌, ◌≤◌, ◌++◌, IfOk, OnOk, length, slice_index};
+ghost use Rattle.std.specs.Prelude.{◌≡◌, ◌+◌, ◌*◌, ◌-◌, ◌<◌, ◌≤◌, ◌++◌, IfOk, OnOk, length, slice_index};
 ghost use Rattle.make_nets.specs.Plan.{where_so};
 ghost use Rattle.make_laws.specs.TowerProduct.{adds_to as adds_to_of};
-ghost use Rattle.gf_field.specs.Bit.{bit_mul};
 ghost use Rattle.gf_field.specs.Quotient.{product};
 ghost use Rattle.gf_field.specs.Ring2k.{degree_of, modulus_of};
 ghost use Rattle.irreducible.specs.Proved.{ring_of};
-ghost use Rattle.mult_composite.specs.Composite.{added_pairs as added_pairs_of, added_sums as added_sums_of};
-ghost use Rattle.mult_composite.specs.private.HighPowers.{AreHighPowers};
+ghost use Rattle.mult_composite.specs.Composite.{added_pairs as added_pairs_of};
 ghost use Rattle.mult_gen.specs.Powers.{ArePowers};
+ghost use Rattle.mult_composite.specs.private.ByPowers.{AreAddedBy};
 
 use crate::places::{adds_to, coefficient_of, high_count, high_place, pair_place, sum_place};
 use crate::powers::factor;
@@ -92,7 +91,7 @@ pub(crate) fn added_sums(
     requires x_long { length x_powers.now ≡ 2 * n }
     requires powers { length powers.now ≡ m - 1 }
     requires long { length sums.now ≡ (2 * m - 1) * n }
-    ensures list { IfOk result (λ list. (t : ℕ) → AreHighPowers n m (product 1 n bit_mul (modulus_of (ring_of base.now))) t powers.now → list.items ≡ added_sums_of n (modulus_of (ring_of base.now)) m t sums.now e l) }
+    ensures list { IfOk result (λ list. AreAddedBy n (modulus_of (ring_of base.now)) m powers.now sums.now e l list.items) }
     ensures few { IfOk result (λ list. length list.items ≤ 65) }
 {
     let mut list = Vec::new(alloc);

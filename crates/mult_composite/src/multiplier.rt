@@ -1,23 +1,19 @@
 //! The multiplier of a tower: its products, sums and reduction put together over the nets of a signature.
-ghost use Rattle.std.specs.Prelude.{◌≡◌, ◌*◌, ◌-◌, ◌≤◌, ◌^◌, ℕ, [], IfOk, OnOk, IsErrOf, length};
-ghost use Rattle.gf_field.specs.Bit.{bit_mul};
+ghost use Rattle.std.specs.Prelude.{◌≡◌, ◌*◌, ◌-◌, ◌≤◌, [], IfOk, OnOk, IsErrOf, length};
 ghost use Rattle.gf_field.specs.Quotient.{product};
 ghost use Rattle.gf_field.specs.Ring2k.{degree_of, modulus_of};
-ghost use Rattle.gf_basis.specs.Basis.{first_values};
-ghost use Rattle.gf_tower.specs.Tower.{tower_polynomial};
 ghost use Rattle.gf_tower.specs.TowerParts.{base_of, coefficients_of, size_of};
 ghost use Rattle.irreducible.specs.Proved.{ring_of};
 ghost use Rattle.net_core.specs.Sound.{IsSound};
 ghost use Rattle.make_nets.specs.MadeNet.{outer_net};
 ghost use Rattle.net_words.specs.declared.word.Role.TheVariants.{Input};
 ghost use Rattle.net_write.specs.Plain.{HasPlainNames};
-ghost use Rattle.make_nets.specs.Computes.{ComputesOfTwo};
 ghost use Rattle.make_nets.specs.Form.{AllWide, HasWords};
 ghost use Rattle.make_nets.specs.Ports.{outer_names};
 ghost use Rattle.mult_gen.specs.Form.{AreWide, HasPorts};
-ghost use Rattle.mult_composite.specs.Composite.{composite_plan};
-ghost use Rattle.mult_composite.specs.Form.{HasCompositeForm, made_composite, plan_of_words};
-ghost use Rattle.mult_composite.specs.private.HighPowers.{AreHighPowers};
+ghost use Rattle.mult_composite.specs.Form.{HasCompositeForm, IsMadeIn, MultipliesIn, MultipliesInTower, made_composite, plan_of_words};
+ghost use Rattle.make_laws.specs.TowerParts.{base_modulus, polynomial_in};
+ghost use Rattle.mult_composite.specs.private.ByPowers.{IsPlanBy};
 
 use crate::form::composite_ports;
 use crate::powers::high_powers;
@@ -57,7 +53,7 @@ fn gates(
     requires targets { length z.now ≡ m * n }
     requires count { length z.now ≤ 64 }
     requires room { outer ≤ 192 }
-    ensures { IfOk result (λ plan. (t : ℕ) → AreHighPowers n m (product 1 n bit_mul (modulus_of (ring_of base.now))) t powers.now → plan ≡ composite_plan outer n (modulus_of (ring_of base.now)) m t a.now b.now z.now) }
+    ensures { IfOk result (λ plan. IsPlanBy n (modulus_of (ring_of base.now)) m powers.now outer a.now b.now z.now plan) }
 {
     let mut plan = PlanMaker::new(alloc, outer);
     let x_powers = powers_of_x(alloc, base, 2 * n)?;
@@ -86,7 +82,7 @@ fn plan_of(
     requires small { n * m ≤ 64 }
     requires words { HasWords Input 2 signature.now.words }
     requires wide { AllWide (n * m) signature.now.words }
-    ensures { IfOk result (λ plan. plan ≡ plan_of_words n (modulus_of (ring_of (base_of tower.now))) m (tower_polynomial n (coefficients_of tower.now)) signature.now.words) }
+    ensures { IfOk result (λ plan. plan ≡ plan_of_words n (base_modulus tower.now) m (polynomial_in n tower.now) signature.now.words) }
 {
     let k = n * m;
     let inputs = inputs(alloc, signature, k as u32, 2)?;
@@ -119,10 +115,10 @@ fn made(
     requires ports { HasPorts 2 signature.now }
     requires wide { AllWide (n * m) signature.now.words }
     requires maker { maker ≡ outer_net (outer_names signature.now.words []) }
-    ensures made { IfOk result (λ net. net ≡ made_composite n (modulus_of (ring_of (base_of (ring_of tower.now)))) m (tower_polynomial n (coefficients_of (ring_of tower.now))) signature.now.words) }
+    ensures made { IfOk result (λ net. net ≡ made_composite n (base_modulus (ring_of tower.now)) m (polynomial_in n (ring_of tower.now)) signature.now.words) }
     ensures sound { IfOk result (λ net. IsSound net) }
     ensures plain { IfOk result (λ net. HasPlainNames net) }
-    ensures computes { IfOk result (λ net. ComputesOfTwo (n * m) (product n m (product 1 n bit_mul (modulus_of (ring_of (base_of (ring_of tower.now))))) (tower_polynomial n (coefficients_of (ring_of tower.now)))) net signature.now.words (first_values (n * m) (λ i. 2 ^ i)) 0 (product n m (product 1 n bit_mul (modulus_of (ring_of (base_of (ring_of tower.now))))) (tower_polynomial n (coefficients_of (ring_of tower.now))))) }
+    ensures computes { IfOk result (λ net. MultipliesInTower n (base_modulus (ring_of tower.now)) m (polynomial_in n (ring_of tower.now)) net signature.now.words) }
 {
     let plan = plan_of(alloc, tower.ring(), n, m, signature)?;
     let net = net_of(alloc, maker, signature, 2, &plan)?;
@@ -143,10 +139,10 @@ pub fn composite(
     requires modulus { modulus_of (ring_of (base_of (ring_of tower.now))) ≡ signature.now.modulus }
     requires tower { coefficients_of (ring_of tower.now) ≡ signature.now.tower }
     requires wide { AreWide (degree_of (ring_of (base_of (ring_of tower.now))) * size_of (ring_of tower.now)) signature.now.words }
-    ensures made { IfOk result (λ net. net ≡ made_composite (degree_of (ring_of (base_of (ring_of tower.now)))) (modulus_of (ring_of (base_of (ring_of tower.now)))) (size_of (ring_of tower.now)) (tower_polynomial (degree_of (ring_of (base_of (ring_of tower.now)))) (coefficients_of (ring_of tower.now))) signature.now.words) }
+    ensures made { IfOk result (λ net. IsMadeIn (ring_of tower.now) signature.now.words net) }
     ensures sound { IfOk result (λ net. IsSound net) }
     ensures plain { IfOk result (λ net. HasPlainNames net) }
-    ensures computes { IfOk result (λ net. ComputesOfTwo (degree_of (ring_of (base_of (ring_of tower.now))) * size_of (ring_of tower.now)) (product (degree_of (ring_of (base_of (ring_of tower.now)))) (size_of (ring_of tower.now)) (product 1 (degree_of (ring_of (base_of (ring_of tower.now)))) bit_mul (modulus_of (ring_of (base_of (ring_of tower.now))))) (tower_polynomial (degree_of (ring_of (base_of (ring_of tower.now)))) (coefficients_of (ring_of tower.now)))) net signature.now.words (first_values (degree_of (ring_of (base_of (ring_of tower.now))) * size_of (ring_of tower.now)) (λ i. 2 ^ i)) 0 (product (degree_of (ring_of (base_of (ring_of tower.now)))) (size_of (ring_of tower.now)) (product 1 (degree_of (ring_of (base_of (ring_of tower.now)))) bit_mul (modulus_of (ring_of (base_of (ring_of tower.now))))) (tower_polynomial (degree_of (ring_of (base_of (ring_of tower.now)))) (coefficients_of (ring_of tower.now))))) }
+    ensures computes { IfOk result (λ net. MultipliesIn (ring_of tower.now) signature.now.words net) }
     ensures form { OnOk result (HasCompositeForm signature.now) }
     ensures unfit { IsErrOf result MakeFault.Unfit → HasCompositeForm signature.now → ⊥ }
 {

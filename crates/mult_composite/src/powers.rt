@@ -1,15 +1,16 @@
 //! The powers of x and of Y that reduce a product in a tower.
-ghost use Rattle.std.specs.Prelude.{◌≡◌, ◌*◌, ◌-◌, ◌/◌, ◌%◌, ◌<◌, ◌≤◌, ◌^◌, IfOk, length, slice_index};
+ghost use Rattle.std.specs.Prelude.{◌≡◌, ◌*◌, ◌-◌, ◌/◌, ◌<◌, ◌≤◌, ◌^◌, IfOk, length};
 ghost use Rattle.gf_field.specs.Polynomial.{coefficient};
 ghost use Rattle.gf_field.specs.Bit.{bit_mul};
 ghost use Rattle.gf_field.specs.Quotient.{product};
 ghost use Rattle.gf_field.specs.Ring2k.{degree_of, modulus_of};
 ghost use Rattle.irreducible.specs.Proved.{ring_of};
-ghost use Rattle.gf_tower.specs.Tower.{tower_polynomial};
-ghost use Rattle.gf_tower.specs.TowerParts.{base_of, coefficients_of, size_of};
+ghost use Rattle.gf_tower.specs.TowerParts.{base_of, size_of};
 ghost use Rattle.make_laws.specs.ProductBits.{x_to};
 ghost use Rattle.mult_composite.specs.private.HighPowers.{AreHighPowers};
 ghost use Rattle.mult_gen.specs.Powers.{ArePowers};
+ghost use Rattle.make_laws.specs.TowerParts.{base_modulus, polynomial_in};
+ghost use Rattle.mult_composite.specs.private.ByPowers.{factor_at};
 
 use crate::places::{bit_of, coefficient_of, group_of};
 use gf_field::{Ring, Ring2k, power};
@@ -49,7 +50,7 @@ pub(crate) fn high_powers(
     requires two { 2 ≤ m }
     requires few { m ≤ 64 }
     ensures long { IfOk result (λ powers. length powers.items ≡ m - 1) }
-    ensures powers { IfOk result (λ powers. AreHighPowers n m (product 1 n bit_mul (modulus_of (ring_of (base_of tower.now)))) (tower_polynomial n (coefficients_of tower.now)) powers.items) }
+    ensures powers { IfOk result (λ powers. AreHighPowers n m (product 1 n bit_mul (base_modulus tower.now)) (polynomial_in n tower.now) powers.items) }
 {
     let mut powers = Vec::new(alloc);
     let y = y_of(n);
@@ -78,7 +79,7 @@ pub(crate) fn factor(
     requires x_powers { ArePowers (degree_of (ring_of base.now)) (modulus_of (ring_of base.now)) x_powers.now }
     requires x_long { length x_powers.now ≡ 2 * n }
     requires long { length powers.now ≡ m - 1 }
-    ensures { result ≡ product 1 n bit_mul (modulus_of (ring_of base.now)) (x_to n (modulus_of (ring_of base.now)) (q % n)) (coefficient n (slice_index powers.now (q / n)) e) }
+    ensures { result ≡ factor_at n (modulus_of (ring_of base.now)) powers.now e q }
 {
     let place = group_of(n, m - 1, q);
     let digit = coefficient_of(n, m, powers[place], e);

@@ -1,14 +1,13 @@
 //! The sums of products of coefficients, and those that are the bits of the product.
-ghost use Rattle.std.specs.Prelude.{◌≡◌, ℕ, ◌+◌, ◌*◌, ◌-◌, ◌<◌, ◌≤◌, ◌^◌, IfOk, OnOk, length};
-ghost use Rattle.gf_field.specs.Bit.{bit_mul};
+ghost use Rattle.std.specs.Prelude.{◌≡◌, ◌+◌, ◌*◌, ◌-◌, ◌<◌, ◌≤◌, ◌^◌, IfOk, OnOk, length};
 ghost use Rattle.gf_field.specs.Quotient.{product};
 ghost use Rattle.gf_field.specs.Ring2k.{degree_of, modulus_of};
 ghost use Rattle.irreducible.specs.Proved.{ring_of};
 ghost use Rattle.make_nets.specs.PlanShape.{HasRoom};
 ghost use Rattle.make_nets.specs.Row.{row_of};
-ghost use Rattle.mult_composite.specs.Composite.{pair_sums as pair_sums_of, reduced_sums as reduced_sums_of};
-ghost use Rattle.mult_composite.specs.private.HighPowers.{AreHighPowers};
+ghost use Rattle.mult_composite.specs.Composite.{pair_sums as pair_sums_of};
 ghost use Rattle.mult_gen.specs.Powers.{ArePowers};
+ghost use Rattle.mult_composite.specs.private.ByPowers.{IsReducedBy};
 
 use crate::added_nets::{added_pairs, added_sums};
 use crate::chains::{sum_into, sum_of};
@@ -73,7 +72,7 @@ pub(crate) fn reduced_sums(
     requires count { length z.now ≤ 64 }
     requires long { length sums.now ≡ (2 * m - 1) * n }
     requires room { HasRoom plan.old (2 ^ 17) }
-    ensures { OnOk result ((t : ℕ) → AreHighPowers n m (product 1 n bit_mul (modulus_of (ring_of base.now))) t powers.now → plan.new ≡ reduced_sums_of n (modulus_of (ring_of base.now)) m t z.now (row_of plan.old sums.now)) }
+    ensures { OnOk result (IsReducedBy n (modulus_of (ring_of base.now)) m powers.now z.now (row_of plan.old sums.now) plan.new) }
 {
     for p in 0..z.len() {
         let e = group_of(n, m, p);

@@ -1,5 +1,5 @@
 -- The net for a signature that has the form.
-use Rattle.std.proofs.Common.{◌≡◌, ◌∙◌, ap, ap₂, sym, subst, ℕ, ◌≤◌, ◌^◌, List, [], length, take, length-append, arith}
+use Rattle.std.proofs.Common.{◌≡◌, ◌∙◌, ap, ap₂, sym, subst, ℕ, ◌≤◌, ◌^◌, List, [], length, take, length-append, Ok, arith}
 use Rattle.std.proofs.lemmas.List.{length-take-le, take-map}
 use Rattle.lists.specs.laws.ListLaws.{length_map as map_long}
 use Rattle.gf_field.specs.Bit.{bit_mul}
@@ -8,20 +8,24 @@ use Rattle.gf_field.specs.Modulus.{IsModulus}
 use Rattle.gf_field.specs.Quotient.{product}
 use Rattle.gf_field.specs.Ring.{IsRing}
 use Rattle.net_core.specs.NetList.{NetList}
+use Rattle.net_words.specs.Bind.{BindingOf}
+use Rattle.net_words.specs.Binding.{Binding}
 use Rattle.net_words.specs.declared.feed.FeedText.{FeedText}
 use Rattle.net_words.specs.declared.word.Role.TheVariants.{Output}
 use Rattle.net_words.specs.declared.word.WordText.{WordText}
 use Rattle.net_signature.specs.Signature.{SignatureValue}
 use Rattle.net_write.specs.Plain.{HasPlainNames}
+use Rattle.circuit_model.specs.JobOfBinding.{job_with}
+use Rattle.make_nets.specs.Form.{same_bases}
 use Rattle.make_nets.specs.MakerNames.{AreMakerNames}
 use Rattle.make_nets.specs.Ports.{outer_names, role_nets, word_names}
 use Rattle.make_nets.proofs.MadeLemmas.{made_plain}
 use Rattle.make_laws.specs.Indeterminate.{x_of}
 use Rattle.make_laws.proofs.IndeterminateLemmas.{power_x}
 use Rattle.make_laws.specs.DigitRegisters.{HasUnitPowers}
-use Rattle.make_laws.specs.DigitNets.{unit_basis}
+use Rattle.make_laws.specs.DigitNets.{HoldSumsSoFar, unit_basis}
 use Rattle.mult_gen.specs.Form.{AreWide}
-use Rattle.mult_digit.specs.ComputesFed.{ComputesDigits, ComputesFed}
+use Rattle.mult_digit.specs.ComputesFed.{ComputesDigits, ComputesFed, HoldsDigitSums}
 use Rattle.mult_digit.specs.DigitForm.{AreDigitWords, HasDigitForm, digit_names, fed_names}
 use Rattle.mult_digit.specs.DigitNet.{digit_net, digit_sums_of, net_over}
 use Rattle.mult_digit.specs.DigitPlan.{digit_latches}
@@ -29,7 +33,7 @@ use Rattle.mult_digit.specs.IsDigitNet.{IsDigitNet}
 use Rattle.mult_digit.specs.private.Front.{IsFront}
 use Rattle.mult_digit.proofs.BindingLemmas.{factor_low, fits}
 use Rattle.mult_digit.proofs.FormLemmas.{one_width}
-use Rattle.mult_digit.proofs.JobLemmas.{computes}
+use Rattle.mult_digit.proofs.JobLemmas.{computes, sums_held}
 use Rattle.mult_digit.proofs.WordLemmas.{names_long}
 
 -- the powers of x below the degree
@@ -89,3 +93,11 @@ digit_product k mul ring field x units signature wide net made =
     let form = made.form in
     subst (λ (n : NetList). ComputesFed k mul n signature.words signature.feeds (unit_basis k) form.feeds.count mul) (sym made.is)
     (computes k mul ring field x units form.width signature.words signature.feeds form.words wide form.feeds form.names)
+
+-- and what its latches hold after t cycles
+pub digit_sums_held : (k : ℕ) (mul : ℕ → ℕ → ℕ) → IsRing k mul → HasNoZeroDivisors k mul → (x : ℕ) → HasUnitPowers k mul x → (signature : SignatureValue) → AreWide k signature.words → (net : NetList) → HoldsDigitSums k mul x signature net
+digit_sums_held k mul ring field x units signature wide net made =
+    let form = made.form in
+    let P : NetList → Type 0 = λ n. (binding : Binding) → BindingOf n signature.words signature.feeds (Ok binding)
+    → HoldSumsSoFar (job_with k mul (record { net = n; binding = binding }) (same_bases (unit_basis k) signature.words) form.feeds.count) x form.width (role_nets Output 0 signature.words) in
+    subst P (sym made.is) (sums_held k mul ring field x units form.width signature.words signature.feeds form.words wide form.feeds form.names)

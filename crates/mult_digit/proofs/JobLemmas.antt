@@ -43,9 +43,9 @@ use Rattle.make_nets.specs.Ports.{numbered, outer_names, role_nets, word_names}
 use Rattle.make_nets.proofs.FormLemmas.{basis_is, output_nets}
 use Rattle.make_nets.proofs.MadeLemmas.{made_sound}
 use Rattle.make_laws.specs.DigitRegisters.{HasUnitPowers, digit_step_sum}
-use Rattle.make_laws.specs.DigitNets.{AreDigitNets, DigitNets, unit_basis}
+use Rattle.make_laws.specs.DigitNets.{AreDigitNets, DigitNets, HoldSumsSoFar, unit_basis}
 use Rattle.make_laws.specs.Held.{bit_at_place, net_at, Multiplies}
-use Rattle.make_laws.proofs.DigitRunLemmas.{digit_nets_multiply}
+use Rattle.make_laws.proofs.DigitRunLemmas.{digit_nets_hold, digit_nets_multiply}
 use Rattle.mult_gen.specs.Form.{AreWide}
 use Rattle.mult_digit.specs.ComputesFed.{ComputesFed}
 use Rattle.mult_digit.specs.DigitForm.{AreDigitFeeds, AreDigitWords, digit_names, fed_names}
@@ -237,6 +237,12 @@ module _ (k : ℕ) (mul : ℕ → ℕ → ℕ) (ring : IsRing k mul) (field : Ha
       where
         same : {F : Type 0} {p q : Binding} → ◌≡◌ {A = Result Binding F} (Ok p) (Ok q) → p ≡ q
         same e = cc
+
+    -- after t cycles the latches hold what was fed so far, times the other factor
+    pub sums_held : (other : Binding) → BindingOf net words feeds (Ok other) → HoldSumsSoFar (job_with k mul (record { net = net; binding = other }) (same_bases (unit_basis k) words) fed_are.count) x width (role_nets Output 0 words)
+    sums_held other is =
+        let P : Binding → Type 0 = λ c. HoldSumsSoFar (job_with k mul (record { net = net; binding = c }) (same_bases (unit_basis k) words) fed_are.count) x width (role_nets Output 0 words) in
+        subst P (sym (one_bound other is)) (digit_nets_hold job x width nets_are is_job units are_nets)
 
     pub computes : ComputesFed k mul net words feeds (unit_basis k) fed_are.count mul
     computes = record {

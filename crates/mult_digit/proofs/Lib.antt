@@ -8,6 +8,7 @@ pub mod MakerLemmas
 pub mod PlanForLemmas
 pub mod PowerLemmas
 pub mod ShapeLemmas
+pub mod ShortLemmas
 pub mod ValueLemmas
 pub mod WordLemmas
 mod Examples

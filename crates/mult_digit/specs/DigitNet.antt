@@ -2,10 +2,13 @@
 -- Low-energy digit-serial/parallel finite field multipliers, Journal of VLSI Signal Processing 19 (1998); docs/FORMATS.md.
 use Rattle.std.specs.Prelude.{ℕ, ◌+◌, List, length}
 use Rattle.std.specs.List.{range_with_len}
+use Rattle.gf_field.specs.Bit.{bit_mul}
+use Rattle.gf_field.specs.Quotient.{product}
 use Rattle.net_core.specs.NetList.{NetList}
 use Rattle.net_words.specs.declared.feed.FeedText.{FeedText}
 use Rattle.net_words.specs.declared.word.Role.TheVariants.{Input, Output}
 use Rattle.net_words.specs.declared.word.WordText.{WordText}
+use Rattle.make_laws.specs.Indeterminate.{x_of}
 use Rattle.make_nets.specs.Made.{made_of}
 use Rattle.make_nets.specs.Ports.{role_nets, word_names}
 use Rattle.mult_digit.specs.DigitForm.{digit_names}
@@ -27,3 +30,7 @@ net_over k mul x width words fed =
 -- the net list, where the lines of the first cycle feed the nets of a digit
 abbrev pub digit_net : ℕ → (ℕ → ℕ → ℕ) → ℕ → ℕ → List WordText → List FeedText → NetList
 digit_net k mul x width words feeds = net_over k mul x width words (digit_names width feeds)
+
+-- the net list over fed nets of these names, in the field of the polynomials modulo g, of degree k
+abbrev pub net_modulo : (k g : ℕ) → ℕ → List WordText → List (List ℕ) → NetList
+net_modulo k g width words fed = net_over k (product 1 k bit_mul g) (x_of k g) width words fed

@@ -1,6 +1,9 @@
 -- The net list of a multiplier digit by digit for a signature. Source: this project's own, docs/FORMATS.md.
 use Rattle.std.specs.Prelude.{◌≡◌, ℕ}
+use Rattle.gf_field.specs.Bit.{bit_mul}
+use Rattle.gf_field.specs.Quotient.{product}
 use Rattle.net_core.specs.NetList.{NetList}
+use Rattle.make_laws.specs.Indeterminate.{x_of}
 use Rattle.net_signature.specs.Signature.{SignatureValue}
 use Rattle.mult_digit.specs.DigitForm.{HasDigitForm}
 use Rattle.mult_digit.specs.DigitNet.{digit_net}
@@ -9,3 +12,7 @@ use Rattle.mult_digit.specs.DigitNet.{digit_net}
 pub record IsDigitNet (k : ℕ) (mul : ℕ → ℕ → ℕ) (x : ℕ) (signature : SignatureValue) (net : NetList) : Type 0 where
   pub form : HasDigitForm k signature
   pub is : net ≡ digit_net k mul x form.width signature.words signature.feeds
+
+-- that over the field of the polynomials modulo g, of degree k
+abbrev pub IsDigitNetModulo : (k g : ℕ) → SignatureValue → NetList → Type 0
+IsDigitNetModulo k g signature net = IsDigitNet k (product 1 k bit_mul g) (x_of k g) signature net

@@ -3,10 +3,12 @@
 
 mod form;
 mod held;
+mod laws;
 mod maker;
 mod powers;
 mod products;
 mod summands;
 mod sums;
 
+pub use laws::latches_hold_the_sums;
 pub use maker::digit_serial;

@@ -1,21 +1,18 @@
 //! The multiplier that takes one factor digit by digit: its products, sums, latches and nets put together.
 ghost use Rattle.std.specs.Prelude.{◌≡◌, ◌≤◌, IfOk, OnOk, IsErrOf, IfSome, IsSome, length};
 ghost use Rattle.gf_field.specs.Ring2k.{degree_of, modulus_of};
-ghost use Rattle.gf_field.specs.Bit.{bit_mul};
-ghost use Rattle.gf_field.specs.Quotient.{product};
 ghost use Rattle.irreducible.specs.Proved.{ring_of};
 ghost use Rattle.net_core.specs.Sound.{IsSound};
 ghost use Rattle.net_write.specs.Plain.{HasPlainNames};
 ghost use Rattle.make_nets.specs.MadeNet.{outer_net};
 ghost use Rattle.make_nets.specs.MakerNames.{AreMakerNames};
 ghost use Rattle.make_nets.specs.Ports.{outer_names};
-ghost use Rattle.make_laws.specs.Indeterminate.{x_of};
 ghost use Rattle.mult_gen.specs.Form.{AreWide};
-ghost use Rattle.mult_digit.specs.ComputesFed.{ComputesDigits};
 ghost use Rattle.mult_digit.specs.DigitForm.{AreDigitWords, HasDigitForm, fed_names};
-ghost use Rattle.mult_digit.specs.DigitNet.{net_over};
-ghost use Rattle.mult_digit.specs.IsDigitNet.{IsDigitNet};
 ghost use Rattle.mult_digit.specs.private.Front.{IsFront};
+ghost use Rattle.mult_digit.specs.DigitNet.{net_modulo};
+ghost use Rattle.mult_digit.specs.IsDigitNet.{IsDigitNetModulo};
+ghost use Rattle.mult_digit.specs.ComputesFed.{ComputesDigitsModulo};
 
 use crate::form::{are_words, width_of};
 use crate::held::{digit_nets, latches};
@@ -42,7 +39,7 @@ fn made(
     requires narrow { length front.now ≤ degree_of (ring_of ring.now) }
     requires names { AreMakerNames (outer_names words.now (fed_names front.now)) }
     requires maker { maker ≡ outer_net (outer_names words.now (fed_names front.now)) }
-    ensures { IfOk result (λ net. net ≡ net_over (degree_of (ring_of ring.now)) (product 1 (degree_of (ring_of ring.now)) bit_mul (modulus_of (ring_of ring.now))) (x_of (degree_of (ring_of ring.now)) (modulus_of (ring_of ring.now))) (length front.now) words.now (fed_names front.now)) }
+    ensures { IfOk result (λ net. net ≡ net_modulo (degree_of (ring_of ring.now)) (modulus_of (ring_of ring.now)) (length front.now) words.now (fed_names front.now)) }
 {
     let first = count_of(words);
     let width = front.len() as u32;
@@ -82,7 +79,7 @@ fn over(
     requires words { AreDigitWords words.now }
     requires wide { AreWide (degree_of (ring_of ring.now)) words.now }
     requires narrow { length front.now ≤ degree_of (ring_of ring.now) }
-    ensures made { IfOk result (λ net. net ≡ net_over (degree_of (ring_of ring.now)) (product 1 (degree_of (ring_of ring.now)) bit_mul (modulus_of (ring_of ring.now))) (x_of (degree_of (ring_of ring.now)) (modulus_of (ring_of ring.now))) (length front.now) words.now (fed_names front.now)) }
+    ensures made { IfOk result (λ net. net ≡ net_modulo (degree_of (ring_of ring.now)) (modulus_of (ring_of ring.now)) (length front.now) words.now (fed_names front.now)) }
     ensures names { OnOk result (AreMakerNames (outer_names words.now (fed_names front.now))) }
     ensures unfit { IsErrOf result MakeFault.Unfit → AreMakerNames (outer_names words.now (fed_names front.now)) → ⊥ }
 {
@@ -106,10 +103,10 @@ pub fn digit_serial(
     signature: &Signature,
 ) -> Result<Net, MakeFault>
     requires wide { AreWide (degree_of (ring_of ring.now)) signature.now.words }
-    ensures made { IfOk result (λ net. IsDigitNet (degree_of (ring_of ring.now)) (product 1 (degree_of (ring_of ring.now)) bit_mul (modulus_of (ring_of ring.now))) (x_of (degree_of (ring_of ring.now)) (modulus_of (ring_of ring.now))) signature.now net) }
+    ensures made { IfOk result (λ net. IsDigitNetModulo (degree_of (ring_of ring.now)) (modulus_of (ring_of ring.now)) signature.now net) }
     ensures sound { IfOk result (λ net. IsSound net) }
     ensures plain { IfOk result (λ net. HasPlainNames net) }
-    ensures computes { IfOk result (λ net. ComputesDigits (degree_of (ring_of ring.now)) (product 1 (degree_of (ring_of ring.now)) bit_mul (modulus_of (ring_of ring.now))) (x_of (degree_of (ring_of ring.now)) (modulus_of (ring_of ring.now))) signature.now net) }
+    ensures computes { IfOk result (λ net. ComputesDigitsModulo (degree_of (ring_of ring.now)) (modulus_of (ring_of ring.now)) signature.now net) }
     ensures form { OnOk result (HasDigitForm (degree_of (ring_of ring.now)) signature.now) }
     ensures unfit { IsErrOf result MakeFault.Unfit → HasDigitForm (degree_of (ring_of ring.now)) signature.now → ⊥ }
 {

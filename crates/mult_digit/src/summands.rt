@@ -1,12 +1,9 @@
 //! The nets whose sum a bit of the product takes.
-ghost use Rattle.std.specs.Prelude.{◌≡◌, ◌==◌, ◌+◌, ◌*◌, ◌++◌, ◌<◌, ◌≤◌, ◌^◌, OnOk, IfOk, length};
-ghost use Rattle.std.specs.Int.{bit_at};
-ghost use Rattle.gf_field.specs.Power.{power};
-ghost use Rattle.make_nets.specs.Plan.{gathered, where_so};
-ghost use Rattle.make_laws.specs.Held.{net_at};
+ghost use Rattle.std.specs.Prelude.{◌≡◌, ◌+◌, ◌*◌, ◌++◌, ◌<◌, ◌≤◌, ◌^◌, OnOk, IfOk, length};
+ghost use Rattle.make_nets.specs.Plan.{gathered};
 ghost use Rattle.mult_digit.specs.DigitPlan.{summands as summands_of};
 ghost use Rattle.mult_digit.specs.private.Powers.{ArePowers};
-ghost use Rattle.mult_digit.specs.private.ProductNets.{product_net};
+ghost use Rattle.mult_digit.specs.private.ProductNets.{added_registers, added_row};
 
 use crate::powers::has_bit;
 use gf_field::Ring;
@@ -27,7 +24,7 @@ fn add_registers<R: Ring>(
     requires width { width ≤ 64 }
     requires few { length z.now ≤ 64 }
     requires place { l < 64 }
-    ensures { OnOk result (list.new.items ≡ list.old.items ++ gathered (length z.now) (λ i. where_so (bit_at (power (R.product ring.now) x (i + width)) l == 1) (net_at z.now i))) }
+    ensures { OnOk result (list.new.items ≡ list.old.items ++ added_registers (R.product ring.now) x width z.now l) }
 {
     for i in 0..z.len() {
         let so = has_bit(ring, x, powers, i as u32 + width, l);
@@ -52,7 +49,7 @@ fn add_row<R: Ring>(
     requires few { k ≤ 64 }
     requires row { e < 64 }
     requires place { l < 64 }
-    ensures { OnOk result (list.new.items ≡ list.old.items ++ gathered k (λ j. where_so (bit_at (power (R.product ring.now) x (e + j)) l == 1) (product_net first k e j))) }
+    ensures { OnOk result (list.new.items ≡ list.old.items ++ added_row (R.product ring.now) x first k l e) }
 {
     for j in 0..k {
         let so = has_bit(ring, x, powers, e + j, l);
@@ -77,7 +74,7 @@ fn add_products<R: Ring>(
     requires few { k ≤ 64 }
     requires width { width ≤ 64 }
     requires place { l < 64 }
-    ensures { OnOk result (list.new.items ≡ list.old.items ++ gathered width (λ e. gathered k (λ j. where_so (bit_at (power (R.product ring.now) x (e + j)) l == 1) (product_net first k e j)))) }
+    ensures { OnOk result (list.new.items ≡ list.old.items ++ gathered width (added_row (R.product ring.now) x first k l)) }
 {
     for e in 0..width {
         add_row(ring, x, powers, first, k, e, l, list)?;

@@ -8,3 +8,4 @@ pub mod AdderLemmas
 pub mod ComputeLemmas
 pub mod FormLemmas
 pub mod Examples
+pub mod ShortLemmas

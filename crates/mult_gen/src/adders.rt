@@ -1,13 +1,11 @@
 //! Adders.
-ghost use Rattle.std.specs.Prelude.{◌≡◌, ◌≤◌, ◌<◌, List, ℕ, IfOk, OnOk, IsErrOf, bit_xor, drop, length, take};
-ghost use Rattle.gf_basis.specs.Basis.{IsBasis};
+ghost use Rattle.std.specs.Prelude.{◌≡◌, ◌≤◌, ◌<◌, IfOk, OnOk, IsErrOf, length};
 ghost use Rattle.net_words.specs.declared.word.Role.TheVariants.{Input};
 ghost use Rattle.net_core.specs.Sound.{IsSound};
 ghost use Rattle.net_write.specs.Plain.{HasPlainNames};
-ghost use Rattle.make_nets.specs.Computes.{ComputesOfTwo};
 ghost use Rattle.make_nets.specs.Form.{AllWide, HasWords};
 ghost use Rattle.mult_gen.specs.Chains.{adder_plan};
-ghost use Rattle.mult_gen.specs.Form.{AreWide, HasAdderForm, inputs_in, made_adder, outer_of, outputs_in};
+ghost use Rattle.mult_gen.specs.Form.{AddsInEachBasis, AreWide, HasAdderForm, adder_over, made_adder};
 
 use crate::fault::MakeFault;
 use crate::form::ports;
@@ -42,7 +40,7 @@ fn plan_of(alloc: Global, k: u32, signature: &Signature) -> Result<PlanMaker, Al
     requires words { HasWords Input 2 signature.now.words }
     requires wide { AllWide k signature.now.words }
     requires small { k ≤ 64 }
-    ensures { IfOk result (λ plan. plan ≡ adder_plan (outer_of signature.now.words) k (take k (inputs_in signature.now.words)) (drop k (inputs_in signature.now.words)) (outputs_in signature.now.words)) }
+    ensures { IfOk result (λ plan. plan ≡ adder_over k signature.now.words) }
 {
     let inputs = inputs(alloc, signature, k, 2)?;
     let outputs = outputs(alloc, signature, k, 2)?;
@@ -60,7 +58,7 @@ pub fn adder<F: Field>(alloc: Global, field: &F, signature: &Signature) -> Resul
     ensures made { IfOk result (λ net. net ≡ made_adder (F.degree field.now) signature.now.words) }
     ensures sound { IfOk result (λ net. IsSound net) }
     ensures plain { IfOk result (λ net. HasPlainNames net) }
-    ensures computes { IfOk result (λ net. (basis : List ℕ) → IsBasis (F.degree field.now) basis → ComputesOfTwo (F.degree field.now) (F.product field.now) net signature.now.words basis 0 bit_xor) }
+    ensures computes { IfOk result (λ net. AddsInEachBasis (F.degree field.now) (F.product field.now) net signature.now.words) }
     ensures form { OnOk result (HasAdderForm signature.now) }
     ensures unfit { IsErrOf result MakeFault.Unfit → HasAdderForm signature.now → ⊥ }
 {

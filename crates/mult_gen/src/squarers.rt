@@ -1,20 +1,17 @@
 //! Squarers.
 ghost use Rattle.std.specs.Prelude.{◌≡◌, ◌≤◌, ◌<◌, ◌+◌, ◌*◌, ◌^◌, Some, IfOk, OnOk, IsErrOf, length};
-ghost use Rattle.gf_field.specs.Bit.{bit_mul};
 ghost use Rattle.gf_field.specs.Quotient.{product};
 ghost use Rattle.gf_field.specs.Ring2k.{degree_of, modulus_of};
-ghost use Rattle.gf_basis.specs.Basis.{first_values};
 ghost use Rattle.irreducible.specs.Proved.{ring_of};
 ghost use Rattle.net_words.specs.declared.word.Role.TheVariants.{Input};
 ghost use Rattle.net_core.specs.Sound.{IsSound};
 ghost use Rattle.net_write.specs.Plain.{HasPlainNames};
-ghost use Rattle.make_nets.specs.Computes.{ComputesOfOne};
 ghost use Rattle.make_nets.specs.Form.{AllWide, HasWords};
 ghost use Rattle.make_nets.specs.Plan.{with_chain};
 ghost use Rattle.make_nets.specs.PlanShape.{HasRoom};
 ghost use Rattle.mult_gen.specs.Chains.{added_bits as added_bits_of, squarer_plan};
 ghost use Rattle.mult_gen.specs.Powers.{ArePowers};
-ghost use Rattle.mult_gen.specs.Form.{AreWide, HasPolyForm, inputs_in, made_squarer, outer_of, outputs_in};
+ghost use Rattle.mult_gen.specs.Form.{AreWide, HasPolyForm, SquaresModulo, made_squarer, squarer_over};
 
 use crate::added_nets::added_bits;
 use crate::fault::MakeFault;
@@ -83,7 +80,7 @@ fn plan_of(
 ) -> Result<PlanMaker, AllocError>
     requires words { HasWords Input 1 signature.now.words }
     requires wide { AllWide (degree_of (ring_of ring.now)) signature.now.words }
-    ensures { IfOk result (λ plan. plan ≡ squarer_plan (outer_of signature.now.words) (degree_of (ring_of ring.now)) (modulus_of (ring_of ring.now)) (inputs_in signature.now.words) (outputs_in signature.now.words)) }
+    ensures { IfOk result (λ plan. plan ≡ squarer_over (degree_of (ring_of ring.now)) (modulus_of (ring_of ring.now)) signature.now.words) }
 {
     let k = ring.k();
     let inputs = inputs(alloc, signature, k, 1)?;
@@ -107,7 +104,7 @@ pub fn squarer(
     ensures made { IfOk result (λ net. net ≡ made_squarer (degree_of (ring_of ring.now)) (modulus_of (ring_of ring.now)) signature.now.words) }
     ensures sound { IfOk result (λ net. IsSound net) }
     ensures plain { IfOk result (λ net. HasPlainNames net) }
-    ensures computes { IfOk result (λ net. ComputesOfOne (degree_of (ring_of ring.now)) (product 1 (degree_of (ring_of ring.now)) bit_mul (modulus_of (ring_of ring.now))) net signature.now.words (first_values (degree_of (ring_of ring.now)) (λ i. 2 ^ i)) 0 (λ a. product 1 (degree_of (ring_of ring.now)) bit_mul (modulus_of (ring_of ring.now)) a a)) }
+    ensures computes { IfOk result (λ net. SquaresModulo (degree_of (ring_of ring.now)) (modulus_of (ring_of ring.now)) net signature.now.words) }
     ensures form { OnOk result (HasPolyForm 1 signature.now) }
     ensures unfit { IsErrOf result MakeFault.Unfit → HasPolyForm 1 signature.now → ⊥ }
 {

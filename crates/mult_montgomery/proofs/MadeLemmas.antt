@@ -1,5 +1,6 @@
 -- The multiplier over the words of a signature.
 use Rattle.std.proofs.Common.{◌≡◌, ◌≢◌, ◌∙◌, ap, sym, refl, subst, ℕ, ◌<◌, ◌≤◌, ◌+◌, ◌*◌, ◌^◌, Bool, List, [], length, take, drop, arith}
+use Rattle.lists.specs.Limits.{most_bytes}
 use Rattle.lists.specs.Lists.{Has}
 use Rattle.lists.specs.laws.HasLaws.{Has_left, Has_right}
 use Rattle.lists.specs.laws.NumberLaws.{mul_few}
@@ -13,6 +14,7 @@ use Rattle.gf_basis.specs.Basis.{AreBits, first_values}
 use Rattle.net_core.specs.Sound.{IsSound}
 use Rattle.net_core.specs.Value.{index_of, IsConsistent}
 use Rattle.net_write.specs.Plain.{HasPlainNames}
+use Rattle.net_write.specs.Written.{written}
 use Rattle.net_words.specs.declared.word.Role.TheVariants.{Input, Output}
 use Rattle.net_words.specs.declared.word.WordText.{WordText}
 use Rattle.make_nets.specs.Computes.{ComputesOfTwo}
@@ -33,9 +35,11 @@ use Rattle.make_nets.proofs.SharedLemmas.{index_bits}
 use Rattle.mult_gen.specs.Form.{inputs_in, outer_of, outputs_in}
 use Rattle.mult_gen.proofs.PlanLemmas.{agrees_of, drop_long, held, outputs_long, plan_for, take_long}
 use Rattle.mult_gen.proofs.PolyLemmas.{index_is, powers_basis}
+use Rattle.mult_gen.proofs.ShortLemmas.{short_plan, text_fits}
 use Rattle.mult_montgomery.specs.Form.{made_montgomery, montgomery_product, plan_of_words}
 use Rattle.mult_montgomery.proofs.RoundLemmas.{montgomery_bits}
 use Rattle.mult_montgomery.proofs.ShapeLemmas.{montgomery_made, montgomery_next}
+use Rattle.mult_montgomery.proofs.TwoLemmas.{montgomery_two}
 
 module _ (k g : ℕ) (ok : IsModulus k g) (words : List WordText) (has : HasWords Input 2 words) (wide : AllWide k words) where
   abbrev a : List ℕ
@@ -60,13 +64,17 @@ module _ (k g : ℕ) (ok : IsModulus k g) (words : List WordText) (has : HasWord
   long_b : length (drop k (inputs_in words)) ≡ k
   long_b = drop_long k words has wide
 
-  few : (plan_of_words k g words).next + k ≤ 2 ^ 20
-  few =
+  next_few : (plan_of_words k g words).next ≤ outer_of words + 12288
+  next_few =
       let next = montgomery_next (outer_of words) (inputs_in words) k g ok.some a b long_a long_b in_a in_b (outputs_in words) in
       let squares : k * (3 * k) ≤ 64 * 192 = mul_few k (3 * k) 64 192 ok.small (omega (arith, ok.small)) in
+      omega (arith, next, squares)
+
+  few : (plan_of_words k g words).next + k ≤ 2 ^ 20
+  few =
       let outer : outer_of words ≡ length words * k = names_long k words wide in
       let three : length words * k ≡ 3 * k = ap (λ c. c * k) has.all in
-      omega (arith, next, squares, outer, three, ok.small)
+      omega (arith, next_few, outer, three, ok.small)
 
   pub fits : IsPlanFor words [] [] (outputs_in words) (plan_of_words k g words)
   fits =
@@ -77,6 +85,11 @@ module _ (k g : ℕ) (ok : IsModulus k g) (words : List WordText) (has : HasWord
   module _ (names : AreMakerNames (outer_names words [])) where
     pub sound : IsSound (made_montgomery k g words)
     sound = made_sound words [] [] (outputs_in words) (plan_of_words k g words) names fits
+
+    pub text : length (written (made_montgomery k g words)) ≤ most_bytes
+    text =
+        text_fits 2 k words has wide ok.small (plan_of_words k g words) fits (omega arith) names
+        (short_plan 2 k words has wide ok.small (plan_of_words k g words) fits (montgomery_two (outer_of words) k g a b (outputs_in words)) (omega (arith, next_few)))
 
     pub plain : HasPlainNames (made_montgomery k g words)
     plain = made_plain words [] [] (outputs_in words) (plan_of_words k g words) names fits

@@ -8,7 +8,8 @@ use Rattle.make_nets.specs.Plan.{Plan}
 use Rattle.net_words.specs.declared.word.WordText.{WordText}
 use Rattle.net_signature.specs.Signature.{SignatureValue}
 use Rattle.make_nets.specs.Made.{made_of}
-use Rattle.mult_gen.specs.Form.{HasPolyForm, inputs_in, outer_of, outputs_in}
+use Rattle.make_laws.specs.InversePower.{IsInversePower}
+use Rattle.mult_gen.specs.Form.{ComputesModulo, HasPolyForm, inputs_in, outer_of, outputs_in}
 use Rattle.mult_montgomery.specs.Montgomery.{montgomery_plan}
 
 -- two inputs in the basis of powers of a field without a tower, whose modulus is not x
@@ -27,3 +28,7 @@ made_montgomery k g words = made_of words [] [] (plan_of_words k g words)
 -- a times b times r
 abbrev pub montgomery_product : (k g r a b : ℕ) → ℕ
 montgomery_product k g r a b = product 1 k bit_mul g (product 1 k bit_mul g a b) r
+
+-- the net list computes the product of two words, times the inverse of x to the k
+abbrev pub MultipliesWithInverse : (k g : ℕ) → NetList → List WordText → Type 0
+MultipliesWithInverse k g net words = (r : ℕ) → IsInversePower k g r → ComputesModulo k g net words (montgomery_product k g r)

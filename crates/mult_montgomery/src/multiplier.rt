@@ -1,20 +1,16 @@
 //! Montgomery's multiplier: its rounds put together over the nets of a signature.
-ghost use Rattle.std.specs.Prelude.{◌≡◌, ◌≢◌, ◌≤◌, ◌^◌, ℕ, [], IfOk, OnOk, IsErrOf, length};
-ghost use Rattle.gf_field.specs.Bit.{bit_mul};
+ghost use Rattle.std.specs.Prelude.{◌≡◌, ◌≢◌, ◌≤◌, ◌^◌, [], IfOk, OnOk, IsErrOf, length};
 ghost use Rattle.gf_field.specs.Quotient.{product};
 ghost use Rattle.gf_field.specs.Ring2k.{degree_of, modulus_of};
-ghost use Rattle.gf_basis.specs.Basis.{first_values};
 ghost use Rattle.irreducible.specs.Proved.{ring_of};
 ghost use Rattle.net_core.specs.Sound.{IsSound};
 ghost use Rattle.make_nets.specs.MadeNet.{outer_net};
 ghost use Rattle.net_words.specs.declared.word.Role.TheVariants.{Input};
 ghost use Rattle.net_write.specs.Plain.{HasPlainNames};
-ghost use Rattle.make_nets.specs.Computes.{ComputesOfTwo};
 ghost use Rattle.make_nets.specs.Form.{AllWide, HasWords};
 ghost use Rattle.make_nets.specs.Ports.{outer_names};
 ghost use Rattle.mult_gen.specs.Form.{AreWide, HasPorts};
-ghost use Rattle.make_laws.specs.InversePower.{IsInversePower};
-ghost use Rattle.mult_montgomery.specs.Form.{HasMontgomeryForm, made_montgomery, montgomery_product, plan_of_words};
+ghost use Rattle.mult_montgomery.specs.Form.{HasMontgomeryForm, MultipliesWithInverse, made_montgomery, plan_of_words};
 ghost use Rattle.mult_montgomery.specs.Montgomery.{montgomery_plan};
 
 use crate::rounds::{buffered, rounds};
@@ -90,7 +86,7 @@ fn made(
     ensures made { IfOk result (λ net. net ≡ made_montgomery (degree_of (ring_of ring.now)) (modulus_of (ring_of ring.now)) signature.now.words) }
     ensures sound { IfOk result (λ net. IsSound net) }
     ensures plain { IfOk result (λ net. HasPlainNames net) }
-    ensures computes { IfOk result (λ net. (r : ℕ) → IsInversePower (degree_of (ring_of ring.now)) (modulus_of (ring_of ring.now)) r → ComputesOfTwo (degree_of (ring_of ring.now)) (product 1 (degree_of (ring_of ring.now)) bit_mul (modulus_of (ring_of ring.now))) net signature.now.words (first_values (degree_of (ring_of ring.now)) (λ i. 2 ^ i)) 0 (montgomery_product (degree_of (ring_of ring.now)) (modulus_of (ring_of ring.now)) r)) }
+    ensures computes { IfOk result (λ net. MultipliesWithInverse (degree_of (ring_of ring.now)) (modulus_of (ring_of ring.now)) net signature.now.words) }
 {
     let plan = plan_of(alloc, ring, signature)?;
     let net = net_of(alloc, maker, signature, 2, &plan)?;
@@ -113,7 +109,7 @@ pub fn montgomery(
     ensures made { IfOk result (λ net. net ≡ made_montgomery (degree_of (ring_of ring.now)) (modulus_of (ring_of ring.now)) signature.now.words) }
     ensures sound { IfOk result (λ net. IsSound net) }
     ensures plain { IfOk result (λ net. HasPlainNames net) }
-    ensures computes { IfOk result (λ net. (r : ℕ) → IsInversePower (degree_of (ring_of ring.now)) (modulus_of (ring_of ring.now)) r → ComputesOfTwo (degree_of (ring_of ring.now)) (product 1 (degree_of (ring_of ring.now)) bit_mul (modulus_of (ring_of ring.now))) net signature.now.words (first_values (degree_of (ring_of ring.now)) (λ i. 2 ^ i)) 0 (montgomery_product (degree_of (ring_of ring.now)) (modulus_of (ring_of ring.now)) r)) }
+    ensures computes { IfOk result (λ net. MultipliesWithInverse (degree_of (ring_of ring.now)) (modulus_of (ring_of ring.now)) net signature.now.words) }
     ensures form { OnOk result (HasMontgomeryForm signature.now) }
     ensures unfit { IsErrOf result MakeFault.Unfit → HasMontgomeryForm signature.now → ⊥ }
 {

@@ -1,5 +1,6 @@
 -- The plan is one for the words, and the words are held by its latches.
 use Rattle.std.proofs.Common.{◌≡◌, ◌∙◌, ap, ap₂, sym, subst, inl, inr, ℕ, zero, suc, ◌<◌, ◌≤◌, ◌+◌, ◌*◌, ◌^◌, Bool, true, false, List, [], ◌++◌, length, map, length-append, None, arith}
+use Rattle.lists.specs.Limits.{most_bytes}
 use Rattle.lists.specs.Lists.{Has, times}
 use Rattle.lists.specs.laws.HasLaws.{Has_cases, Has_left, Has_map, times_append}
 use Rattle.lists.specs.laws.ListLaws.{length_map as map_long}
@@ -8,10 +9,13 @@ use Rattle.net_core.specs.LatchValue.{LatchValue}
 use Rattle.net_words.specs.Bind.{is_unknown}
 use Rattle.net_words.specs.declared.word.Role.TheVariants.{State, Fed, Output}
 use Rattle.net_words.specs.declared.word.WordText.{WordText}
+use Rattle.net_write.specs.Written.{written}
+use Rattle.make_nets.specs.MakerNames.{AreMakerNames}
 use Rattle.make_nets.specs.Plan.{Plan}
 use Rattle.make_nets.specs.PlanShape.{IsWellMade}
 use Rattle.make_nets.specs.Makeable.{driven_outside}
 use Rattle.make_nets.proofs.ShapeLemmas.{chain_grows}
+use Rattle.make_nets.proofs.ShortLemmas.{short_text}
 use Rattle.make_nets.specs.BindingOfMade.{AreHeld}
 use Rattle.make_nets.specs.Form.{AllWide, HasWords}
 use Rattle.make_nets.specs.Made.{IsPlanFor, made_of}
@@ -23,7 +27,7 @@ use Rattle.make_laws.specs.NormalNets.{place_before}
 use Rattle.mult_normal.specs.NormalNet.{first_factor, product_nets, second_factor}
 use Rattle.mult_normal.specs.NormalPlan.{Products, moved_from, normal_latches, products_from, sum_net, summed}
 use Rattle.mult_normal.proofs.LatchLemmas.{latch_cases, latch_outs}
-use Rattle.mult_normal.proofs.ShapeLemmas.{AreFew, rows_few, sum_made, sum_read}
+use Rattle.mult_normal.proofs.ShapeLemmas.{AreFew, rows_few, sum_made, sum_read, sum_two}
 use Rattle.mult_normal.proofs.WordLemmas.{all_long, both, first_long, first_state, no_inputs, one, outer_is, outputs_long, product_place, second_long, second_state, state_other, states_long}
 
 before_low : (k i : ℕ) → i < k → place_before k i < k
@@ -110,33 +114,37 @@ module _ (k : ℕ) (counts : ℕ → ℕ → Bool) (words : List WordText) (has 
   latch_low l there =
       omega (arith, outer_long, held_low l.out (subst (λ (xs : List ℕ). Has xs l.out) outs (Has_map (λ (m : LatchValue). m.out) latches l there)))
 
-  few : (summed products).next + length {A = ℕ} [] + length latches ≤ 2 ^ 20
-  few = omega (
-    arith,
-    chain_grows None products.nets products.plan,
-    rows.nets,
-    rows.next,
-    square_few k small,
-    small,
-    all_long k words has wide,
-    latch_count,
-  )
+  next_few : (summed products).next ≤ length (word_names words) + 8193
+  next_few = omega (arith, chain_grows None products.nets products.plan, rows.nets, rows.next, square_few k small)
     where
       rows : AreFew (length (word_names words)) (k * k) products
       rows = rows_few k counts (first_factor k words) (second_factor k words) (length (word_names words)) k
 
-      latch_count : length latches ≡ k + k + k
-      latch_count = omega (
-        arith,
-        map_long (λ (l : LatchValue). l.out) latches,
-        ap (λ xs. length xs) outs,
-        length-append (role_nets State 0 words) (product_nets words),
-        states_long k words has wide,
-        outputs_long k words has wide,
-      )
+  latch_count : length latches ≡ k + k + k
+  latch_count = omega (
+    arith,
+    map_long (λ (l : LatchValue). l.out) latches,
+    ap (λ xs. length xs) outs,
+    length-append (role_nets State 0 words) (product_nets words),
+    states_long k words has wide,
+    outputs_long k words has wide,
+  )
+
+  few : (summed products).next + length {A = ℕ} [] + length latches ≤ 2 ^ 20
+  few = omega (arith, next_few, small, all_long k words has wide, latch_count)
 
   pub plan_for : IsPlanFor words [] latches [] (summed products)
   plan_for = record { shape = shape; once = once; nexts = nexts; latch_outs = latch_low; few = few }
+
+  -- the text of the net
+  pub text_fits : AreMakerNames (outer_names words []) → length (written (made_of words [] latches (summed products))) ≤ most_bytes
+  text_fits names =
+      short_text words [] latches [] (summed products) names plan_for
+      (record {
+        two = sum_two k counts (first_factor k words) (second_factor k words) (length (word_names words));
+        few = omega (arith, made.count, next_few);
+      })
+      (omega (arith, all_long k words has wide, small)) (omega (arith, latch_count, small))
 
   pub are_held : AreHeld words latches
   are_held = record {

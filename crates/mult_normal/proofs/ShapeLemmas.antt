@@ -7,6 +7,8 @@ use Rattle.make_nets.specs.Plan.{begun, each}
 use Rattle.make_nets.specs.PlanShape.{IsWellMade}
 use Rattle.make_nets.proofs.OuterNets.{CanRead}
 use Rattle.make_nets.proofs.EachLemmas.{each_keeps}
+use Rattle.make_nets.specs.ShortPlan.{ReadTwo}
+use Rattle.make_nets.proofs.TwoLemmas.{and_two, begun_two, chain_two}
 use Rattle.make_nets.proofs.ShapeLemmas.{begun_made, and_made, can_read_more, chain_made, chain_read}
 use Rattle.make_laws.specs.Held.{net_at}
 use Rattle.mult_normal.specs.NormalPlan.{Products, products_from, sum_net, summed, with_product, with_row}
@@ -39,6 +41,19 @@ module _ (k : ℕ) (counts : ℕ → ℕ → Bool) (a b : List ℕ) where
   rows_few n (suc i) =
       few_same n (k * i + k) (k * suc i) (each (suc i) (with_row k counts a b) (record { plan = begun n; nets = [] })) (omega (arith, mul-suc k i))
       (row_few n (k * i) i k (each i (with_row k counts a b) (record { plan = begun n; nets = [] })) (rows_few n i))
+
+-- ---- gates of at most two inputs
+
+product_two : (counts : Bool) (a b : ℕ) (s : Products) → ReadTwo s.plan → ReadTwo (with_product counts a b s).plan
+product_two false a b s two = two
+product_two true a b s two = and_two None a b s.plan two
+
+pub sum_two : (k : ℕ) (counts : ℕ → ℕ → Bool) (a b : List ℕ) (n : ℕ) → ReadTwo (summed (products_from n k counts a b))
+sum_two k counts a b n =
+    chain_two None (products_from n k counts a b).nets (products_from n k counts a b).plan
+    (each_keeps (λ i (s : Products). ReadTwo s.plan) (with_row k counts a b) (record { plan = begun n; nets = [] }) k (begun_two n)
+    (λ i s less two. each_keeps (λ j (r : Products). ReadTwo r.plan) (λ j. with_product (counts i j) (net_at a i) (net_at b j)) s k two
+    (λ j r below kept. product_two (counts i j) (net_at a i) (net_at b j) r kept)))
 
 module _ (outer : ℕ) (sources : List ℕ) where
   -- the gates are well made, and a gate may read each product

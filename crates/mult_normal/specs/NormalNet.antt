@@ -5,6 +5,7 @@ use Rattle.net_core.specs.LatchValue.{LatchValue}
 use Rattle.net_core.specs.NetList.{NetList}
 use Rattle.net_words.specs.declared.word.Role.TheVariants.{State, Output}
 use Rattle.net_words.specs.declared.word.WordText.{WordText}
+use Rattle.make_nets.specs.Computes.{ComputesOfTwo}
 use Rattle.make_nets.specs.Made.{made_of}
 use Rattle.make_nets.specs.Ports.{role_nets, word_names}
 use Rattle.mult_normal.specs.Coordinates.{counts_in}
@@ -31,3 +32,7 @@ latches_of k mul elements words = normal_latches k (sum_net (normal_products k m
 -- the net list
 abbrev pub normal_net : ℕ → (ℕ → ℕ → ℕ) → List ℕ → List WordText → NetList
 normal_net k mul elements words = made_of words [] (latches_of k mul elements words) (summed (normal_products k mul elements words))
+
+-- it computes the product of two words after k cycles
+abbrev pub MultipliesInCycles : (k : ℕ) → (ℕ → ℕ → ℕ) → NetList → List WordText → (basis : List ℕ) → Type 0
+MultipliesInCycles k mul net words basis = ComputesOfTwo k mul net words basis k mul

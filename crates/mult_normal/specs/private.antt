@@ -1,1 +1,2 @@
 pub mod But
+pub mod Counted

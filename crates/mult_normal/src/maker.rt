@@ -5,14 +5,13 @@ ghost use Rattle.gf_basis.specs.BasisParts.{elements_of, IsBasisOver};
 ghost use Rattle.make_nets.specs.MadeNet.{outer_net};
 ghost use Rattle.make_nets.specs.MakerNames.{AreMakerNames};
 ghost use Rattle.make_nets.specs.Ports.{outer_names};
-ghost use Rattle.make_nets.specs.Computes.{ComputesOfTwo};
 ghost use Rattle.make_nets.specs.Form.{AllWide, HasWords};
 ghost use Rattle.net_core.specs.Sound.{IsSound};
 ghost use Rattle.net_words.specs.declared.word.Role.TheVariants.{State};
 ghost use Rattle.net_write.specs.Plain.{HasPlainNames};
 ghost use Rattle.mult_gen.specs.Form.{AreWide};
 ghost use Rattle.mult_normal.specs.NormalForm.{HasNormalForm};
-ghost use Rattle.mult_normal.specs.NormalNet.{first_factor, normal_net, product_nets, second_factor};
+ghost use Rattle.mult_normal.specs.NormalNet.{MultipliesInCycles, first_factor, normal_net, product_nets, second_factor};
 
 use crate::form::has_form;
 use crate::held::latches;
@@ -107,7 +106,7 @@ pub fn normal_serial<F: Field>(
     ensures made { IfOk result (λ net. net ≡ normal_net (F.degree field.now) (F.product field.now) (elements_of basis.now) signature.now.words) }
     ensures sound { IfOk result (λ net. IsSound net) }
     ensures plain { IfOk result (λ net. HasPlainNames net) }
-    ensures computes { IfOk result (λ net. ComputesOfTwo (F.degree field.now) (F.product field.now) net signature.now.words (elements_of basis.now) (F.degree field.now) (F.product field.now)) }
+    ensures computes { IfOk result (λ net. MultipliesInCycles (F.degree field.now) (F.product field.now) net signature.now.words (elements_of basis.now)) }
     ensures form { OnOk result (HasNormalForm signature.now) }
     ensures unfit { IsErrOf result MakeFault.Unfit → HasNormalForm signature.now → ⊥ }
 {

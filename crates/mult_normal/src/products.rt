@@ -2,9 +2,10 @@
 ghost use Rattle.std.specs.Prelude.{◌≡◌, ◌+◌, ◌<◌, ◌≤◌, [], IfOk, OnOk, length};
 ghost use Rattle.gf_basis.specs.BasisParts.{elements_of, IsBasisOver};
 ghost use Rattle.mult_normal.specs.Coordinates.{counts_in};
-ghost use Rattle.mult_normal.specs.NormalPlan.{products_from, sum_net, summed, with_product, with_row};
-ghost use Rattle.make_nets.specs.Plan.{begun, each};
+ghost use Rattle.mult_normal.specs.NormalPlan.{sum_net, summed, with_product};
+ghost use Rattle.make_nets.specs.Plan.{begun};
 ghost use Rattle.make_nets.specs.PlanShape.{HasRoom};
+ghost use Rattle.mult_normal.specs.private.Counted.{counted_products, counted_row, counted_rows};
 
 use gf_basis::Basis;
 use gf_field::{Field, Ring};
@@ -77,7 +78,7 @@ impl ProductMaker {
         requires b_long { length b.now ≡ F.degree field.now }
         requires room { HasRoom self.old.plan (F.degree field.now) }
         ensures few { OnOk result (self.new.plan.next ≤ self.old.plan.next + F.degree field.now) }
-        ensures made { OnOk result (self.new ≡ with_row (F.degree field.now) (counts_in (F.degree field.now) (F.product field.now) (elements_of basis.now)) a.now b.now i self.old) }
+        ensures made { OnOk result (self.new ≡ counted_row (F.degree field.now) (F.product field.now) (elements_of basis.now) a.now b.now i self.old) }
     {
         for j in 0..field.k() {
             let so = counts(field, basis, i, j);
@@ -98,7 +99,7 @@ impl ProductMaker {
         requires a_long { length a.now ≡ F.degree field.now }
         requires b_long { length b.now ≡ F.degree field.now }
         requires room { HasRoom self.old.plan 4096 }
-        ensures { OnOk result (self.new ≡ each (F.degree field.now) (with_row (F.degree field.now) (counts_in (F.degree field.now) (F.product field.now) (elements_of basis.now)) a.now b.now) self.old) }
+        ensures { OnOk result (self.new ≡ counted_rows (F.degree field.now) (F.product field.now) (elements_of basis.now) a.now b.now self.old) }
     {
         for i in 0..field.k() {
             self.add_row(field, basis, a, b, i)?;
@@ -132,8 +133,8 @@ pub(crate) fn last_sum<F: Field>(
     requires a_long { length a.now ≡ F.degree field.now }
     requires b_long { length b.now ≡ F.degree field.now }
     requires room { first ≤ 1024 }
-    ensures plan { IfOk result (λ pair. pair.0 ≡ summed (products_from first (F.degree field.now) (counts_in (F.degree field.now) (F.product field.now) (elements_of basis.now)) a.now b.now)) }
-    ensures net { IfOk result (λ pair. pair.1 ≡ sum_net (products_from first (F.degree field.now) (counts_in (F.degree field.now) (F.product field.now) (elements_of basis.now)) a.now b.now)) }
+    ensures plan { IfOk result (λ pair. pair.0 ≡ summed (counted_products first (F.degree field.now) (F.product field.now) (elements_of basis.now) a.now b.now)) }
+    ensures net { IfOk result (λ pair. pair.1 ≡ sum_net (counted_products first (F.degree field.now) (F.product field.now) (elements_of basis.now) a.now b.now)) }
 {
     let mut products = ProductMaker::new(alloc, first);
     products.add_rows(field, basis, a, b)?;
