@@ -1,11 +1,13 @@
 pub mod DesignLemmas
 pub mod ItemLemmas
 pub mod LineLemmas
+pub mod InPlaceLemmas
 pub mod TokenLemmas
 pub mod PlaceLemmas
 pub mod StatementLemmas
 pub mod ReadLemmas
 pub mod TableLemmas
+pub mod RowLemmas
 pub mod OutcomeLemmas
 pub mod StepLemmas
 pub mod FormalLemmas

@@ -116,6 +116,10 @@ dotted_spells word rest s false false false false false false true b8 dot all e1
 dotted_spells word rest s false false false false false false false true dot all e1 e2 e3 e4 e5 e6 e7 e8 e = keyword_spells word (codes ".end") rest s e8 (end_spells rest s e)
 dotted_spells word rest s false false false false false false false false dot all e1 e2 e3 e4 e5 e6 e7 e8 e = by_same _ s (Other word rest) e (refl, rw (dot, e1, e2, e3, e4, e5, e6, e7, e8) refl)
 
+-- a word that is `.names` is none of those before it
+pub names_said : (word : Token) (rest : List Token) → bytes_eq word (codes ".names") ≡ true → dotted_of word rest ≡ cover_of rest
+names_said word rest is = let P : Token → Type 0 = λ w. dotted_of w rest ≡ cover_of rest in subst P (sym (equal word (codes ".names") is)) refl
+
 pub all_rest : (word : Token) (rest : List Token) → All IsToken (word ∷ rest) → All IsToken rest
 all_rest word rest all = λ k d less. all (suc k) d (omega arith)
 

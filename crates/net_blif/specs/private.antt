@@ -1,2 +1,4 @@
 pub mod Connecting
 pub mod Leading
+pub mod InPlace
+pub mod Rows

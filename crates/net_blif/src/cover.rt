@@ -1,6 +1,7 @@
 //! Covers and their tables.
-ghost use Rattle.std.specs.Prelude.{◌≡◌, ◌<◌, ◌≤◌, ◌+◌, ◌*◌, ◌^◌, ◌++◌, ◌∷◌, [], Some, OnOk, OnErr, if◌then◌else◌};
+ghost use Rattle.std.specs.Prelude.{◌≡◌, ◌==◌, ◌<◌, ◌≤◌, ◌+◌, ◌*◌, ◌^◌, ◌++◌, ◌∷◌, [], Some, length, OnOk, OnErr, if◌then◌else◌};
 ghost use Rattle.net_blif.specs.Item.{IsSoundCover};
+ghost use Rattle.net_blif.specs.private.Rows.{unless};
 ghost use Rattle.net_blif.specs.Cover.{fits as row_fits, cell_fits as fits_cell, fits_some as some_fits, gate_bit as bit_of_gate, agrees as may_agree, number_of_bits, begun, gate_of, takes_row, with_row};
 
 use crate::item_list::ItemList;
@@ -10,13 +11,28 @@ use std::alloc::{AllocError, Global};
 use std::marker::Model;
 
 /// A `.names` with the rows that have been read.
-#[derive(Drop)]
 pub struct Cover {
     line: u32,
     inputs: TokenList,
     out: Vec<u8>,
     output: Option<bool>,
     rows: TokenList,
+}
+
+// By hand, so that a caller that lets one go makes one call, and not one for each part.
+impl Drop for Cover {
+    fn drop(self) {
+        let Cover {
+            line: _,
+            inputs,
+            out,
+            output: _,
+            rows,
+        } = self;
+        drop(inputs);
+        drop(out);
+        drop(rows);
+    }
 }
 
 impl Model for Cover {
@@ -114,37 +130,14 @@ fn fits(pattern: &[u8], index: u32) -> bool
     }
 }
 
-// Whether a row fits an index.
-fn fits_some(rows: &TokenSlice<'_>, index: u32) -> bool
-    ensures { result ≡ some_fits rows.now index }
-{
-    for place in 0..rows.len() {
-        if fits(rows.get(place), index) {
-            return true;
-        }
-    }
-    false
-}
-
-// A bit of the table.
-fn gate_bit(output: Option<bool>, fit: bool) -> bool
-    ensures { result ≡ bit_of_gate output fit }
-{
-    match output {
-        None => false,
-        Some(true) => fit,
-        Some(false) => !fit,
-    }
-}
-
-// The table with one more bit.
-fn with_bit(table: u64, index: u32, bit: bool) -> u64
+// The bits with one more.
+fn with_bit(bits: u64, index: u32, bit: bool) -> u64
     requires index { index < 64 }
-    requires table { table < 2 ^ index }
-    ensures value { result ≡ table + (if bit then 2 ^ index else 0) }
+    requires bits { bits < 2 ^ index }
+    ensures value { result ≡ bits + (if bit then 2 ^ index else 0) }
     ensures small { result < 2 ^ (index + 1) }
 {
-    if bit { table + (1 << index) } else { table }
+    if bit { bits + (1 << index) } else { bits }
 }
 
 // How many bits a table has.
@@ -164,15 +157,96 @@ fn size(inputs: u32) -> u32
     }
 }
 
+// A table whose bits are all 1.
+fn all_ones(inputs: u32) -> u64
+    requires { inputs ≤ 6 }
+    ensures { result + 1 ≡ 2 ^ (2 ^ inputs) }
+{
+    match inputs {
+        0 => 0x1,
+        1 => 0x3,
+        2 => 0xf,
+        3 => 0xff,
+        4 => 0xffff,
+        5 => 0xffff_ffff,
+        _ => 0xffff_ffff_ffff_ffff,
+    }
+}
+
+// The bits of twice as many indices, of which the upper half has a 1 where the next cell is asked.
+fn doubled(bits: u64, width: u32, cell: u8) -> u64
+    requires width { width ≤ 32 }
+    requires bits { bits < 2 ^ width }
+    ensures { result ≡ unless (cell == 48) bits * 2 ^ width + unless (cell == 49) bits }
+{
+    if cell == b'0' {
+        bits
+    } else if cell == b'1' {
+        bits << width
+    } else {
+        (bits << width) + bits
+    }
+}
+
+// The bits of the indices that a row fits, with a cell for each input.
+fn cell_by_cell(pattern: &[u8]) -> u64
+    requires { length pattern.now ≤ 6 }
+    ensures { result ≡ number_of_bits (row_fits pattern.now) (2 ^ length pattern.now) }
+{
+    let mut bits = 1;
+    let mut width = 1;
+    for cell in pattern {
+        bits = doubled(bits, width, *cell);
+        width *= 2;
+    }
+    bits
+}
+
+// The bits of the indices that a row of any length fits.
+fn index_by_index(inputs: u32, pattern: &[u8]) -> u64
+    requires { inputs ≤ 6 }
+    ensures { result ≡ number_of_bits (row_fits pattern.now) (2 ^ inputs) }
+{
+    let mut bits = 0;
+    for index in 0..size(inputs) {
+        bits = with_bit(bits, index, fits(pattern, index));
+    }
+    bits
+}
+
+// The bits of the indices that a row fits.
+fn row_bits(inputs: u32, pattern: &[u8]) -> u64
+    requires { inputs ≤ 6 }
+    ensures { result ≡ number_of_bits (row_fits pattern.now) (2 ^ inputs) }
+{
+    if pattern.len() == inputs as usize {
+        cell_by_cell(pattern)
+    } else {
+        index_by_index(inputs, pattern)
+    }
+}
+
+// The bits of the indices that some row fits.
+fn rows_bits(inputs: u32, rows: &TokenSlice<'_>) -> u64
+    requires { inputs ≤ 6 }
+    ensures { result ≡ number_of_bits (some_fits rows.now) (2 ^ inputs) }
+{
+    let mut bits = 0;
+    for place in 0..rows.len() {
+        bits |= row_bits(inputs, rows.get(place));
+    }
+    bits
+}
+
 // The table of a cover with this output and these rows.
 fn table(inputs: u32, output: Option<bool>, rows: &TokenSlice<'_>) -> u64
     requires { inputs ≤ 6 }
     ensures small { result < 2 ^ (2 ^ inputs) }
     ensures bits { result ≡ number_of_bits (λ index. bit_of_gate output (some_fits rows.now index)) (2 ^ inputs) }
 {
-    let mut table = 0;
-    for index in 0..size(inputs) {
-        table = with_bit(table, index, gate_bit(output, fits_some(rows, index)));
+    match output {
+        None => 0,
+        Some(true) => rows_bits(inputs, rows),
+        Some(false) => all_ones(inputs) - rows_bits(inputs, rows),
     }
-    table
 }

@@ -43,10 +43,18 @@ pub enum Place {
 }
 
 /// What the lines of a model place, in order. Contracts see the list of the items.
-#[derive(Drop)]
 pub struct ItemList {
     tokens: TokenList,
     places: Vec<Place>,
+}
+
+// By hand, so that a caller that lets one go makes one call, and not one for each part.
+impl Drop for ItemList {
+    fn drop(self) {
+        let ItemList { tokens, places } = self;
+        drop(tokens);
+        drop(places);
+    }
 }
 
 impl Model for ItemList {

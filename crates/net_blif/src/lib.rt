@@ -8,6 +8,7 @@ mod design;
 mod fault;
 mod formal_set;
 mod formals;
+mod in_place;
 mod instances;
 mod item;
 mod item_list;

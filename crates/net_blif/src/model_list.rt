@@ -14,10 +14,18 @@ use std::marker::Model;
 type Numbers = IndexMap<String, u32, KeyedHash>;
 
 /// A model: its name, and what its lines place.
-#[derive(Drop)]
 pub struct ModelText {
     name: Name,
     items: ItemList,
+}
+
+// By hand, so that a caller that lets one go makes one call, and not one for each part.
+impl Drop for ModelText {
+    fn drop(self) {
+        let ModelText { name, items } = self;
+        drop(name);
+        drop(items);
+    }
 }
 
 impl Model for ModelText {

@@ -1,12 +1,15 @@
 //! The reader of BLIF.
-ghost use Rattle.std.specs.Prelude.{◌≡◌, ◌⊎◌, ◌≤◌, ◌==◌, ◌&&◌, Ok, Err, IfOk, IfErr, length, take_while, nat_le};
+ghost use Rattle.std.specs.Prelude.{◌≡◌, ◌⊎◌, ◌<◌, ◌≤◌, ◌+◌, ◌==◌, ◌&&◌, Result, Ok, Err, IfOk, IfErr, length, take_while, nat_le};
+ghost use Rattle.std.specs.Str.Lines.{lines};
 ghost use Rattle.text_core.specs.Lines.{tokens_of};
-ghost use Rattle.net_blif.specs.Lines.{lines_of};
+ghost use Rattle.net_blif.specs.Lines.{joined, lines_of};
 ghost use Rattle.net_blif.specs.Statement.{is_dotted as dotted};
-ghost use Rattle.net_blif.specs.Models.{begins, first_word as first_word_of, start, BlifDesign, Reads};
+ghost use Rattle.net_blif.specs.Models.{begins, first_word as first_word_of, start, BlifDesign, Reading, Reads};
 
+use crate::in_place::line_in_place;
 use crate::lines::next_joined;
 use crate::reader::Reader;
+use crate::token::Token;
 use crate::{BlifFault, Design};
 use net_core::key_of;
 use std::alloc::{AllocError, Global};
@@ -62,6 +65,32 @@ fn has_model(alloc: Global, text: &[u8]) -> Result<bool, AllocError>
     Ok(false)
 }
 
+// What the first line of a text says: the text after it, and the count of its physical lines. A line that stands alone is
+// read where it stands, with its tokens in `words`, and another is joined in `line`.
+fn read_first<'a>(
+    reader: &mut Reader,
+    alloc: Global,
+    number: u32,
+    text: &'a [u8],
+    words: &mut Vec<Token<'a>>,
+    line: &mut Vec<u8>,
+) -> Result<(&'a [u8], u32), BlifFault>
+    requires some { 0 < length text.now }
+    requires few { length text.now ≤ 67108864 }
+    ensures read { IfOk result (λ r. (outcome : Result Reading BlifFault) → Reads reader.new (joined (number + r.1) (lines r.0.now)) outcome → Reads reader.old (joined number (lines text.now)) outcome) }
+    ensures fault { IfErr result (λ e. (e ≡ BlifFault.OutOfMemory) ⊎ Reads reader.old (joined number (lines text.now)) (Err e)) }
+    ensures count { IfOk result (λ r. length r.0.now + r.1 ≤ length text.now) }
+    ensures shorter { IfOk result (λ r. length r.0.now < length text.now) }
+{
+    if let Some(after) = line_in_place(text, words)? {
+        reader.read_words(alloc, number, words)?;
+        return Ok((after, 1));
+    }
+    let (after, count) = next_joined(text, line)?;
+    reader.read_line(alloc, number, line)?;
+    Ok((after, count))
+}
+
 // What the lines of a text say, one after another.
 fn read_lines(alloc: Global, text: &[u8]) -> Result<Reader, BlifFault>
     requires { length text.now ≤ 67108864 }
@@ -69,12 +98,12 @@ fn read_lines(alloc: Global, text: &[u8]) -> Result<Reader, BlifFault>
     ensures fault { IfErr result (λ e. (e ≡ BlifFault.OutOfMemory) ⊎ Reads start (lines_of text.now) (Err e)) }
 {
     let mut reader = Reader::new(alloc, key_of(text));
+    let mut words = Vec::new(alloc);
     let mut line = Vec::new(alloc);
     let mut rest = text;
     let mut number = 1u32;
     while !rest.is_empty() {
-        let (after, count) = next_joined(rest, &mut line)?;
-        reader.read_line(alloc, number, &line)?;
+        let (after, count) = read_first(&mut reader, alloc, number, rest, &mut words, &mut line)?;
         rest = after;
         number += count;
     }

@@ -71,7 +71,7 @@ impl Reader {
     }
 
     // Whether the statement may stand here.
-    fn may_stand(&self, statement: &Statement) -> bool
+    fn may_stand(&self, statement: &Statement<'_, '_>) -> bool
         ensures { result ≡ may_stand_here self.now statement.now }
     {
         match statement {
@@ -206,7 +206,12 @@ impl Reader {
     }
 
     // Adds what one more statement says.
-    fn next(&mut self, alloc: Global, line: u32, statement: &Statement<'_>) -> Result<(), BlifFault>
+    fn next(
+        &mut self,
+        alloc: Global,
+        line: u32,
+        statement: &Statement<'_, '_>,
+    ) -> Result<(), BlifFault>
         requires { HasPrintingNames statement.now }
         ensures read { OnOk result (next_reading self.old line statement.now ≡ Ok self.new) }
         ensures fault { IfErr result (λ e. (e ≡ BlifFault.OutOfMemory) ⊎ (next_reading self.old line statement.now ≡ Err e)) }
@@ -233,6 +238,30 @@ impl Reader {
         }
     }
 
+    /// Adds what a line of these tokens says. After an error the reader is not used again.
+    pub fn read_words(
+        &mut self,
+        alloc: Global,
+        line: u32,
+        words: &[Token<'_>],
+    ) -> Result<(), BlifFault>
+        requires { All IsToken words.now }
+        ensures read { OnOk result (ReadsLine self.old line words.now (Ok self.new)) }
+        ensures fault { IfErr result (λ e. (e ≡ BlifFault.OutOfMemory) ⊎ ReadsLine self.old line words.now (Err e)) }
+    {
+        if words.is_empty() {
+            return Ok(());
+        }
+        let Some(statement) = read_statement(words) else {
+            return Err(BlifFault::Syntax { line });
+        };
+        if !self.may_stand(&statement) {
+            return Err(BlifFault::Syntax { line });
+        }
+        self.next(alloc, line, &statement)?;
+        Ok(())
+    }
+
     /// Adds what one more line says. After an error the reader is not used again.
     pub fn read_line(&mut self, alloc: Global, line: u32, bytes: &[u8]) -> Result<(), BlifFault>
         ensures read { OnOk result (ReadsLine self.old line (tokens_of bytes.now) (Ok self.new)) }
@@ -241,16 +270,7 @@ impl Reader {
         let Some(words) = words(alloc, bytes)? else {
             return Err(BlifFault::Syntax { line });
         };
-        if words.is_empty() {
-            return Ok(());
-        }
-        let Some(statement) = read_statement(&words) else {
-            return Err(BlifFault::Syntax { line });
-        };
-        if !self.may_stand(&statement) {
-            return Err(BlifFault::Syntax { line });
-        }
-        self.next(alloc, line, &statement)?;
+        self.read_words(alloc, line, &words)?;
         Ok(())
     }
 }

@@ -59,7 +59,7 @@ fn bit_of(token: &[u8]) -> Option<bool>
 }
 
 // What the words after `.model` say.
-fn model<'a>(rest: &'a [Token<'a>]) -> Option<Statement<'a>>
+fn model<'w, 'a>(rest: &'w [Token<'a>]) -> Option<Statement<'w, 'a>>
     ensures { result ≡ model_of rest.now }
 {
     match rest {
@@ -70,7 +70,7 @@ fn model<'a>(rest: &'a [Token<'a>]) -> Option<Statement<'a>>
 }
 
 // What the words after `.names` say.
-fn cover<'a>(rest: &'a [Token<'a>]) -> Option<Statement<'a>>
+fn cover<'w, 'a>(rest: &'w [Token<'a>]) -> Option<Statement<'w, 'a>>
     ensures { result ≡ cover_of rest.now }
 {
     match rest {
@@ -83,7 +83,7 @@ fn cover<'a>(rest: &'a [Token<'a>]) -> Option<Statement<'a>>
 }
 
 // What the words after `.latch` say.
-fn latch<'a>(rest: &'a [Token<'a>]) -> Option<Statement<'a>>
+fn latch<'w, 'a>(rest: &'w [Token<'a>]) -> Option<Statement<'w, 'a>>
     ensures { result ≡ latch_of rest.now }
 {
     match rest {
@@ -93,7 +93,11 @@ fn latch<'a>(rest: &'a [Token<'a>]) -> Option<Statement<'a>>
 }
 
 // What the nets of a latch and the words behind them say.
-fn latch_on<'a>(next: &'a [u8], out: &'a [u8], rest: &'a [Token<'a>]) -> Option<Statement<'a>>
+fn latch_on<'w, 'a>(
+    next: &'a [u8],
+    out: &'a [u8],
+    rest: &'w [Token<'a>],
+) -> Option<Statement<'w, 'a>>
     ensures { result ≡ latch_of (next.now ∷ out.now ∷ rest.now) }
 {
     if !is_latch_end(rest) {
@@ -107,7 +111,7 @@ fn latch_on<'a>(next: &'a [u8], out: &'a [u8], rest: &'a [Token<'a>]) -> Option<
 }
 
 // What the words after `.subckt` say.
-fn instance<'a>(rest: &'a [Token<'a>]) -> Option<Statement<'a>>
+fn instance<'w, 'a>(rest: &'w [Token<'a>]) -> Option<Statement<'w, 'a>>
     ensures { result ≡ instance_of rest.now }
 {
     match rest {
@@ -117,7 +121,7 @@ fn instance<'a>(rest: &'a [Token<'a>]) -> Option<Statement<'a>>
 }
 
 // What the model of an instance and its connections say.
-fn instance_on<'a>(model: &'a [u8], connections: &'a [Token<'a>]) -> Option<Statement<'a>>
+fn instance_on<'w, 'a>(model: &'a [u8], connections: &'w [Token<'a>]) -> Option<Statement<'w, 'a>>
     ensures { result ≡ instance_of (model.now ∷ connections.now) }
 {
     if !are_connections(connections) {
@@ -130,7 +134,7 @@ fn instance_on<'a>(model: &'a [u8], connections: &'a [Token<'a>]) -> Option<Stat
 }
 
 // What the words after `.end` say.
-fn end<'a>(rest: &'a [Token<'a>]) -> Option<Statement<'a>>
+fn end<'w, 'a>(rest: &'w [Token<'a>]) -> Option<Statement<'w, 'a>>
     ensures { result ≡ end_of rest.now }
 {
     match rest {
@@ -139,10 +143,13 @@ fn end<'a>(rest: &'a [Token<'a>]) -> Option<Statement<'a>>
     }
 }
 
-// What a line of this first word and these others says.
-fn dotted_statement<'a>(word: &'a [u8], rest: &'a [Token<'a>]) -> Option<Statement<'a>>
+// What a line of this first word and these others says. Most lines with such a word are those of gates.
+fn dotted_statement<'w, 'a>(word: &'a [u8], rest: &'w [Token<'a>]) -> Option<Statement<'w, 'a>>
     ensures { result ≡ dotted_of word.now rest.now }
 {
+    if word == b".names".as_slice() {
+        return cover(rest);
+    }
     if word == b".model".as_slice() {
         return model(rest);
     }
@@ -154,9 +161,6 @@ fn dotted_statement<'a>(word: &'a [u8], rest: &'a [Token<'a>]) -> Option<Stateme
     }
     if word == b".clock".as_slice() {
         return Some(Statement::Clock(Tokens::new(rest)));
-    }
-    if word == b".names".as_slice() {
-        return cover(rest);
     }
     if word == b".latch".as_slice() {
         return latch(rest);
@@ -174,7 +178,7 @@ fn dotted_statement<'a>(word: &'a [u8], rest: &'a [Token<'a>]) -> Option<Stateme
 }
 
 // What a row's pattern and output say.
-fn row_statement<'a>(pattern: &'a [u8], output: &[u8]) -> Option<Statement<'a>>
+fn row_statement<'w, 'a>(pattern: &'a [u8], output: &[u8]) -> Option<Statement<'w, 'a>>
     ensures { result ≡ row_of (pattern.now ∷ output.now ∷ []) }
 {
     if !is_pattern(pattern) {
@@ -190,7 +194,7 @@ fn row_statement<'a>(pattern: &'a [u8], output: &[u8]) -> Option<Statement<'a>>
 }
 
 // What an output alone says.
-fn lone_row<'a>(output: &'a [u8]) -> Option<Statement<'a>>
+fn lone_row<'w, 'a>(output: &'a [u8]) -> Option<Statement<'w, 'a>>
     ensures { result ≡ row_of (output.now ∷ []) }
 {
     match bit_of(output) {
@@ -203,7 +207,7 @@ fn lone_row<'a>(output: &'a [u8]) -> Option<Statement<'a>>
 }
 
 // What a line that does not begin with `.` says.
-fn row<'a>(words: &'a [Token<'a>]) -> Option<Statement<'a>>
+fn row<'w, 'a>(words: &'w [Token<'a>]) -> Option<Statement<'w, 'a>>
     ensures { result ≡ row_of words.now }
 {
     match words {
@@ -214,7 +218,7 @@ fn row<'a>(words: &'a [Token<'a>]) -> Option<Statement<'a>>
 }
 
 /// The statement that the words of a line spell, if there is one.
-pub fn read_statement<'a>(words: &'a [Token<'a>]) -> Option<Statement<'a>>
+pub fn read_statement<'w, 'a>(words: &'w [Token<'a>]) -> Option<Statement<'w, 'a>>
     ensures { result ≡ statement_of words.now }
 {
     match words {
@@ -224,11 +228,11 @@ pub fn read_statement<'a>(words: &'a [Token<'a>]) -> Option<Statement<'a>>
 }
 
 // What the words say, of which this is the first and these are the others.
-fn first_statement<'a>(
-    words: &'a [Token<'a>],
+fn first_statement<'w, 'a>(
+    words: &'w [Token<'a>],
     word: &'a [u8],
-    rest: &'a [Token<'a>],
-) -> Option<Statement<'a>>
+    rest: &'w [Token<'a>],
+) -> Option<Statement<'w, 'a>>
     ensures { result ≡ (if dotted word.now then dotted_of word.now rest.now else row_of words.now) }
 {
     if is_dotted(word) {

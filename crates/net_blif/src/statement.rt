@@ -13,23 +13,23 @@ use net_core::Start;
 /// The `rest` of a latch is its kind, control and start, as far as they are there; each connection of an instance
 /// is `formal=actual`.
 #[derive(Drop)]
-pub enum Statement<'a> {
+pub enum Statement<'w, 'a> {
     Model(Token<'a>),
-    Inputs(Tokens<'a>),
-    Outputs(Tokens<'a>),
-    Clock(Tokens<'a>),
+    Inputs(Tokens<'w, 'a>),
+    Outputs(Tokens<'w, 'a>),
+    Clock(Tokens<'w, 'a>),
     Cover {
-        inputs: Tokens<'a>,
+        inputs: Tokens<'w, 'a>,
         out: Token<'a>,
     },
     Latch {
         next: Token<'a>,
         out: Token<'a>,
-        rest: Tokens<'a>,
+        rest: Tokens<'w, 'a>,
     },
     Instance {
         model: Token<'a>,
-        connections: Tokens<'a>,
+        connections: Tokens<'w, 'a>,
     },
     Row {
         pattern: Token<'a>,
@@ -38,7 +38,7 @@ pub enum Statement<'a> {
     End,
     Other {
         word: Token<'a>,
-        rest: Tokens<'a>,
+        rest: Tokens<'w, 'a>,
     },
 }
 

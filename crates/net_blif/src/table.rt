@@ -7,10 +7,17 @@ use net_core::KeyedHash;
 use std::alloc::{AllocError, Global};
 
 /// The number that each name has, if it has one. Contracts see it as a function of the name, by the word `numbers_in`.
-#[derive(Drop)]
 pub struct Table {
     alloc: Global,
     numbers: IndexMap<String, u32, KeyedHash>,
+}
+
+// By hand, so that a caller that lets one go makes one call, and not one for each part.
+impl Drop for Table {
+    fn drop(self) {
+        let Table { alloc: _, numbers } = self;
+        drop(numbers);
+    }
 }
 
 impl Table {

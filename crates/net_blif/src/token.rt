@@ -35,11 +35,11 @@ impl<'a> Token<'a> {
 
 /// Some tokens of a line, in order. Contracts see the list of them.
 #[derive(Drop)]
-pub struct Tokens<'a> {
-    list: &'a [Token<'a>],
+pub struct Tokens<'w, 'a> {
+    list: &'w [Token<'a>],
 }
 
-impl<'a> Model for Tokens<'a> {
+impl<'w, 'a> Model for Tokens<'w, 'a> {
     ghost use Rattle.std.specs.Prelude.{List, ℕ};
 
     ghost Value = { List (List ℕ) };
@@ -47,16 +47,16 @@ impl<'a> Model for Tokens<'a> {
     ghost view = { λ tokens. tokens.list.now };
 }
 
-impl<'a> Tokens<'a> {
+impl<'w, 'a> Tokens<'w, 'a> {
     /// The tokens of the list.
-    pub fn new(list: &'a [Token<'a>]) -> Tokens<'a>
+    pub fn new(list: &'w [Token<'a>]) -> Tokens<'w, 'a>
         ensures { result ≡ list.now }
     {
         Tokens { list }
     }
 
     /// The tokens, in order.
-    pub fn as_slice(&self) -> &'a [Token<'a>]
+    pub fn as_slice(&self) -> &'w [Token<'a>]
         ensures { result.now ≡ self.now }
     {
         self.list

@@ -1,0 +1,111 @@
+//! Lines that stand alone, read where they stand.
+ghost use Rattle.std.specs.Prelude.{◌≡◌, ◌<◌, ◌≤◌, ◌∷◌, ◌++◌, [], false, length, All, IsTrue, IfOk, IfSome, OnOk};
+ghost use Rattle.std.specs.Str.Lines.{lines};
+ghost use Rattle.text_core.specs.Lines.{is_blank as blank};
+ghost use Rattle.net_blif.specs.Lines.{goes_on as line_goes_on};
+ghost use Rattle.net_blif.specs.Statement.{IsToken};
+ghost use Rattle.net_blif.specs.private.InPlace.{as_word, IsWordByte, StandsAlone};
+
+use crate::token::Token;
+use std::alloc::AllocError;
+
+// The front of a text: bytes from `$` to `~`, as many as there are, the byte behind them, and what follows it.
+#[derive(Drop)]
+struct Front<'a> {
+    word: &'a [u8],
+    byte: u8,
+    rest: &'a [u8],
+}
+
+// The front of a text; none where all bytes are from `$` to `~`.
+fn front_of(text: &[u8]) -> Option<Front<'_>>
+    ensures is { IfSome result (λ f. text.now ≡ f.word.now ++ f.byte ∷ f.rest.now) }
+    ensures word { IfSome result (λ f. All IsWordByte f.word.now) }
+    ensures shorter { IfSome result (λ f. length f.rest.now < length text.now) }
+{
+    for (i, byte) in text.iter().enumerate() {
+        if *byte < b'$' || *byte > b'~' {
+            return Some(Front {
+                word: &text[..i],
+                byte: *byte,
+                rest: &text[i + 1..],
+            });
+        }
+    }
+    None
+}
+
+fn is_blank(byte: u8) -> bool
+    ensures { result ≡ blank byte }
+{
+    byte == b' ' || byte == b'\t'
+}
+
+// Whether a word has at most 255 bytes, and its last is no `\`.
+fn may_stand(word: &[u8]) -> bool
+    ensures short { IsTrue result → length word.now ≤ 255 }
+    ensures ends { IsTrue result → line_goes_on word.now ≡ false }
+{
+    match word {
+        [.., last] => word.len() <= 255 && *last != b'\\',
+        [] => true,
+    }
+}
+
+// The text behind the end of a line: LF, or CR and LF.
+fn after_end(byte: u8, rest: &[u8]) -> Option<&[u8]>
+    ensures line { IfSome result (λ after. lines (byte ∷ rest.now) ≡ [] ∷ lines after.now) }
+    ensures within { IfSome result (λ after. length after.now ≤ length rest.now) }
+{
+    if byte == b'\n' {
+        return Some(rest);
+    }
+    match rest {
+        [first, after @ ..] => {
+            if byte == b'\r' && *first == b'\n' {
+                Some(after)
+            } else {
+                None
+            }
+        }
+        [] => None,
+    }
+}
+
+// A run of bytes at the end of the words, unless it is empty.
+fn push_word<'a>(words: &mut Vec<Token<'a>>, word: &'a [u8]) -> Result<(), AllocError>
+    ensures { OnOk result (words.new.items ≡ words.old.items ++ as_word word.now) }
+{
+    if !word.is_empty() {
+        words.push(Token::new(word))?;
+    }
+    Ok(())
+}
+
+/// Puts the tokens of the first line of a text into `words`, and gives the text after it. It gives a text only where the
+/// line stands alone, ends with LF, and each of its tokens has 1 to 255 bytes from `$` to `~`.
+pub fn line_in_place<'a>(
+    text: &'a [u8],
+    words: &mut Vec<Token<'a>>,
+) -> Result<Option<&'a [u8]>, AllocError>
+    ensures line { IfOk result (λ found. IfSome found (λ after. StandsAlone text.now words.new.items after.now)) }
+    ensures tokens { IfOk result (λ found. IfSome found (λ after. All IsToken words.new.items)) }
+    ensures shorter { IfOk result (λ found. IfSome found (λ after. length after.now < length text.now)) }
+{
+    words.clear();
+    let mut rest = text;
+    while let Some(front) = front_of(rest) {
+        if !may_stand(front.word) {
+            return Ok(None);
+        }
+        push_word(words, front.word)?;
+        if let Some(after) = after_end(front.byte, front.rest) {
+            return Ok(Some(after));
+        }
+        if !is_blank(front.byte) {
+            return Ok(None);
+        }
+        rest = front.rest;
+    }
+    Ok(None)
+}
