@@ -13,12 +13,13 @@ use Rattle.net_blif.specs.Table.{with_number, Numbers}
 use Rattle.net_blif.specs.Design.{ModelValue, items_of, model_named}
 use Rattle.net_blif.specs.declared.item.Item.{Item}
 use Rattle.net_blif.specs.declared.item.Item.TheVariants as items
+use Rattle.net_flat.specs.Steps.{actual_steps, Enter}
 use Rattle.net_flat.specs.Walk.{next_number}
 use Rattle.net_flat.specs.declared.flat_fault.FlatFault.{FlatFault}
 use Rattle.net_flat.specs.declared.scope.Scope.{Scope}
 use Rattle.net_flat.specs.private.Entering.{HasEntered}
 use Rattle.net_flat.specs.private.LocalScope.{local_in}
-use Rattle.net_flat.specs.private.LocalWalk.{back_to, entered, local_body, local_line, local_lines, local_within, number_in, numbers_of, state_with, AreInside, HasEach, IsFaultOf, State}
+use Rattle.net_flat.specs.private.LocalWalk.{back_to, entered, local_body, local_line, local_lines, local_walked, local_within, number_in, numbers_of, state_with, AreInside, HasEach, IsFaultOf, Local, State}
 use Rattle.net_flat.proofs.SameLemmas.{local_walk_none, local_walk_step}
 use Rattle.net_flat.proofs.KeepLemmas.{keeps_within}
 use Rattle.net_flat.proofs.StateLemmas.{inside_more, refused_on, refused_same}
@@ -113,6 +114,17 @@ few_met met more place (items.Outputs list) few is = omega (arith, few, is)
 few_met met more place (items.Gate line inputs out table) few is = omega (arith, few, is)
 few_met met more place (items.Latch line next out start) few is = omega (arith, few, is)
 few_met met more place (items.Instance line model connections) few is = omega (arith, few, is)
+
+-- a walker that put the scope of an instance in the place of its own
+pub has_entered : (old at : State) (number : ℕ) (connections : List Token) (scope outer dest inner : Scope) → at.local ≡ local_in scope → local_walked old (Enter ∷ actual_steps connections) ≡ Ok at → AreInside at → outer ≡ scope → dest ≡ inner → local_in inner ≡ (entered at number connections).local → HasEntered old number connections outer (state_with at.net at.instances (local_in dest))
+has_entered old at number connections scope outer dest inner is mentioned inside from to entering =
+    let P : State → Type 0 = AreInside in
+    let same : at ≡ state_with at.net at.instances (local_in outer) = ap (λ (l : Local). state_with at.net at.instances l) (is ∙ ap (λ (s : Scope). local_in s) (sym from)) in
+    record {
+      mentioned = mentioned ∙ ap Ok same;
+      inside = subst P same inside;
+      went = ap (λ (l : Local). state_with at.net at.instances l) (ap (λ (s : Scope). local_in s) to ∙ entering) ∙ ap (λ (s : State). entered s number connections) same;
+    }
 
 -- what is known of an instance that was entered
 pub entered_some : (design : List ModelValue) (called model : Token) (old new : State) (number m : ℕ) (connections : List Token) (outer : Scope) (o : Option (ℕ × Scope)) → called ≡ model → o ≡ Some (m, outer) → IfSome o (λ e. (model_named design called ≡ Some e.0) × HasEntered old number connections e.1 new) → (model_named design model ≡ Some m) × HasEntered old number connections outer new

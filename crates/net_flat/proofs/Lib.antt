@@ -2,6 +2,7 @@ pub mod PathLemmas
 pub mod TiedLemmas
 pub mod SameLemmas
 pub mod StateLemmas
+pub mod MarkLemmas
 pub mod KeepLemmas
 pub mod EnterLemmas
 pub mod DriveLemmas

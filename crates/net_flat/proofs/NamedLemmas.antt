@@ -1,5 +1,5 @@
 -- Gates of a walk stand on nets that were mentioned before.
-use Rattle.std.proofs.Common.{sym, refl, subst, ℕ, zero, suc, ◌+◌, Bool, true, false, List, [], ◌∷◌, ◌++◌, map, flat_map, Option, None, Some}
+use Rattle.std.proofs.Common.{sym, refl, subst, ℕ, zero, suc, Bool, true, false, List, [], ◌∷◌, ◌++◌, map, flat_map, Option, None, Some}
 use Rattle.std.specs.Option.{option_map_or}
 use Rattle.lists.specs.Lists.{Has}
 use Rattle.net_blif.specs.Statement.{Token}

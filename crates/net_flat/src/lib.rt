@@ -4,8 +4,14 @@
 
 mod flat;
 mod flat_fault;
+mod kept;
+mod known;
+mod known_names;
 mod laws;
+mod mark;
+mod marks;
 mod namer;
+mod order;
 mod part_laws;
 mod place;
 mod scope;

@@ -47,8 +47,8 @@ fn mention_in(maker: &mut NetMaker, name: &str) -> Result<u32, FlatFault>
     }
 }
 
-// Whether two names are the same.
-fn is_same(name: &[u8], other: &[u8]) -> bool
+/// Whether two names are the same.
+pub fn is_same(name: &[u8], other: &[u8]) -> bool
     ensures { IsTrue result ↔ (name.now ≡ other.now) }
 {
     name == other

@@ -6,18 +6,20 @@ ghost use Rattle.net_blif.specs.Connection.{actual_of, is_connection};
 ghost use Rattle.net_blif.specs.Design.{model_named};
 ghost use Rattle.net_blif.specs.Item.{IsSoundItem};
 ghost use Rattle.net_blif.specs.Statement.{IsToken};
-ghost use Rattle.net_blif.specs.Table.{numbers_in};
+ghost use Rattle.net_blif.specs.Table.{no_numbers};
 ghost use Rattle.net_flat.specs.Steps.{Enter, actual_steps};
 ghost use Rattle.net_flat.specs.Walk.{next_number};
+ghost use Rattle.net_flat.specs.private.KnownNumbers.{known_in};
 ghost use Rattle.net_flat.specs.private.LocalScope.{local_in};
 ghost use Rattle.net_flat.specs.private.LocalWalk.{AreInside, IsFaultOf, entered, local_line, local_walked, local_within, number_in, numbers_of as numbers_of_actuals, prefix_in};
 ghost use Rattle.net_flat.specs.private.WalkerState.{state_of};
-ghost use Rattle.net_flat.specs.private.Entering.{HasEntered};
+ghost use Rattle.net_flat.specs.private.Entering.{HasEntered, HasMentioned};
 
 use crate::FlatFault;
+use crate::known_names::KnownNames;
 use crate::scope::Scope;
 use crate::walker::Walker;
-use net_blif::{Design, Item, Table, TokenSlice, sides, text_of};
+use net_blif::{Design, Item, TokenSlice, sides, text_of};
 use std::alloc::AllocError;
 use std::mem;
 
@@ -33,18 +35,23 @@ fn met_with(met: u64, item: &Item<'_>) -> u64
 }
 
 impl Walker {
-    // The table of an instance's formals, from the list of the numbers of its actuals.
-    fn formals(&self, connections: &TokenSlice<'_>) -> Result<Table, AllocError>
+    // The names of a model with the numbers of an instance's formals, from the list of the numbers of its actuals.
+    fn formals(
+        &self,
+        names: KnownNames,
+        connections: &TokenSlice<'_>,
+    ) -> Result<KnownNames, AllocError>
+        requires names { known_in names ≡ no_numbers }
         requires connections { All IsToken connections.now }
         requires numbers { self.now.inputs.items ≡ map (number_in (state_of self.now)) (map actual_of connections.now) }
-        ensures { IfOk result (λ table. numbers_in table ≡ numbers_of_actuals (state_of self.now) connections.now) }
+        ensures { IfOk result (λ known. known_in known ≡ numbers_of_actuals (state_of self.now) connections.now) }
     {
-        let mut table = Table::new(self.alloc, self.key);
+        let mut known = names;
         for place in (0..connections.len()).rev() {
             let (formal, _) = sides(connections.get(place));
-            table.insert(text_of(formal), self.inputs[place])?;
+            known.connect(formal, self.inputs[place])?;
         }
-        Ok(table)
+        Ok(known)
     }
 
     // The prefix of the names in the instance of this number.
@@ -60,12 +67,18 @@ impl Walker {
     }
 
     // The scope in the instance of this number.
-    fn inner(&self, number: u64, connections: &TokenSlice<'_>) -> Result<Scope, AllocError>
+    fn inner(
+        &self,
+        number: u64,
+        names: KnownNames,
+        connections: &TokenSlice<'_>,
+    ) -> Result<Scope, AllocError>
+        requires names { known_in names ≡ no_numbers }
         requires connections { All IsToken connections.now }
         requires numbers { self.now.inputs.items ≡ map (number_in (state_of self.now)) (map actual_of connections.now) }
         ensures { IfOk result (λ scope. local_in scope ≡ (entered (state_of self.now) number connections.now).local) }
     {
-        let numbers = self.formals(connections)?;
+        let numbers = self.formals(names, connections)?;
         let prefix = self.inner_prefix(number)?;
         Ok(Scope {
             is_top: false,
@@ -86,8 +99,8 @@ impl Walker {
         requires connections { All IsToken connections.now }
         requires sides { IsTrue (list_all is_connection connections.now) }
         requires inside { AreInside (state_of self.old) }
-        ensures none { IfOk result (λ entered. IfNone entered ((model_named design.now name.now ≡ None) × (local_walked (state_of self.old) (Enter ∷ actual_steps connections.now) ≡ Ok (state_of self.new)))) }
-        ensures some { IfOk result (λ entered. IfSome entered (λ e. (model_named design.now name.now ≡ Some e.0) × HasEntered (state_of self.old) number connections.now e.1 (state_of self.new))) }
+        ensures none { IfOk result (λ r. IfNone r ((model_named design.now name.now ≡ None) × HasMentioned (state_of self.old) connections.now (state_of self.new))) }
+        ensures some { IfOk result (λ r. IfSome r (λ e. (model_named design.now name.now ≡ Some e.0) × HasEntered (state_of self.old) number connections.now e.1 (state_of self.new))) }
         ensures inside { OnOk result (AreInside (state_of self.new)) }
         ensures fault { IfErr result (IsFaultOf (local_walked (state_of self.old) (Enter ∷ actual_steps connections.now))) }
     {
@@ -95,7 +108,8 @@ impl Walker {
         let Some(model) = design.model(text_of(name)) else {
             return Ok(None);
         };
-        let inner = self.inner(number, connections)?;
+        let names = self.kept.names_of(self.alloc, self.key, model)?;
+        let inner = self.inner(number, names, connections)?;
         let outer = mem::replace(&mut self.scope, inner);
         Ok(Some((model, outer)))
     }
@@ -127,7 +141,10 @@ impl Walker {
             return Ok(());
         };
         self.walk(design, inside, depth)?;
+        let none = KnownNames::new(self.alloc, self.key);
+        let names = mem::replace(&mut self.scope.numbers, none);
         self.scope = outer;
+        self.kept.keep(inside, names);
         Ok(())
     }
 

@@ -1,21 +1,24 @@
 //! The walk over the lines of models.
-ghost use Rattle.std.specs.Prelude.{◌≡◌, ◌⊎◌, ℕ, Ok, Some, None, IfOk, IfErr, OnOk};
+ghost use Rattle.std.specs.Prelude.{◌≡◌, ◌⊎◌, ◌++◌, ℕ, Ok, Some, None, IfOk, IfErr, OnOk, string_bytes};
 ghost use Rattle.net_core.specs.NetList.{empty};
 ghost use Rattle.net_blif.specs.Statement.{IsToken};
-ghost use Rattle.net_blif.specs.Table.{numbers_in};
 ghost use Rattle.net_flat.specs.Steps.{Mention};
+ghost use Rattle.net_flat.specs.private.KnownNumbers.{known_in};
 ghost use Rattle.net_flat.specs.private.LocalWalk.{AreInside, InTop, Inside, IsFaultOf, found, local_step, state_with};
 ghost use Rattle.net_flat.specs.private.WalkerState.{state_of};
 
 use crate::FlatFault;
+use crate::kept::Kept;
+use crate::known_names::KnownNames;
 use crate::namer::Namer;
 use crate::scope::Scope;
-use net_blif::{Table, text_of};
+use net_blif::text_of;
 use net_core::{NetFault, NetMaker};
-use std::alloc::Global;
+use std::alloc::{AllocError, Global};
 
 /// A walk on its way: the net list so far, how many instances were entered, and what is known of names.
-/// The numbers of a gate's inputs stand in a list that is used again.
+/// The numbers of a gate's inputs stand in a list that is used again, as the label of a new net does. What is known of
+/// the names of a model is kept for the next walk over it.
 #[derive(Drop)]
 pub struct Walker {
     pub alloc: Global,
@@ -24,6 +27,8 @@ pub struct Walker {
     pub instances: u32,
     pub scope: Scope,
     pub inputs: Vec<u32>,
+    pub label: String,
+    pub kept: Kept,
 }
 
 /// A fault of nets, or out of memory.
@@ -36,21 +41,32 @@ pub fn fault_of(fault: NetFault) -> FlatFault
     }
 }
 
+// Makes the label of a name behind this prefix.
+fn write_label(label: &mut String, prefix: &str, name: &str) -> Result<(), AllocError>
+    ensures { OnOk result (string_bytes label.new ≡ prefix.now ++ name.now) }
+{
+    label.clear();
+    label.push_str(prefix)?;
+    label.push_str(name)?;
+    Ok(())
+}
+
 // The number of the net of a new name in an instance with this prefix, which is made.
 fn add_inside(
-    alloc: Global,
+    label: &mut String,
     maker: &mut Namer,
     prefix: &str,
-    numbers: &mut Table,
-    name: &str,
+    numbers: &mut KnownNames,
+    name: &[u8],
 ) -> Result<u32, FlatFault>
-    requires { numbers_in numbers.old name.now ≡ None }
-    ensures number { IfOk result (λ n. numbers_in numbers.new name.now ≡ Some n) }
-    ensures made { (i : ℕ) → OnOk result (local_step (state_with maker.old i (Inside prefix.now (numbers_in numbers.old))) (Mention name.now) ≡ Ok (state_with maker.new i (Inside prefix.now (numbers_in numbers.new)))) }
-    ensures fault { (i : ℕ) → IfErr result (IsFaultOf (local_step (state_with maker.old i (Inside prefix.now (numbers_in numbers.old))) (Mention name.now))) }
+    requires name { IsToken name.now }
+    requires new { known_in numbers.old name.now ≡ None }
+    ensures number { IfOk result (λ n. known_in numbers.new name.now ≡ Some n) }
+    ensures made { (i : ℕ) → OnOk result (local_step (state_with maker.old i (Inside prefix.now (known_in numbers.old))) (Mention name.now) ≡ Ok (state_with maker.new i (Inside prefix.now (known_in numbers.new)))) }
+    ensures fault { (i : ℕ) → IfErr result (IsFaultOf (local_step (state_with maker.old i (Inside prefix.now (known_in numbers.old))) (Mention name.now))) }
 {
-    let label = format!(in alloc; "{prefix}{name}")?;
-    let number = match maker.fresh(&label) {
+    write_label(label, prefix, text_of(name))?;
+    let number = match maker.fresh(label.as_str()) {
         Ok(number) => number,
         Err(fault) => return Err(fault_of(fault)),
     };
@@ -60,19 +76,20 @@ fn add_inside(
 
 // The number of the net of a name in an instance with this prefix, which is made if it is new.
 fn mention_inside(
-    alloc: Global,
+    label: &mut String,
     maker: &mut Namer,
     prefix: &str,
-    numbers: &mut Table,
-    name: &str,
+    numbers: &mut KnownNames,
+    name: &[u8],
 ) -> Result<u32, FlatFault>
-    ensures number { IfOk result (λ n. numbers_in numbers.new name.now ≡ Some n) }
-    ensures made { (i : ℕ) → OnOk result (local_step (state_with maker.old i (Inside prefix.now (numbers_in numbers.old))) (Mention name.now) ≡ Ok (state_with maker.new i (Inside prefix.now (numbers_in numbers.new)))) }
-    ensures fault { (i : ℕ) → IfErr result (IsFaultOf (local_step (state_with maker.old i (Inside prefix.now (numbers_in numbers.old))) (Mention name.now))) }
+    requires { IsToken name.now }
+    ensures number { IfOk result (λ n. known_in numbers.new name.now ≡ Some n) }
+    ensures made { (i : ℕ) → OnOk result (local_step (state_with maker.old i (Inside prefix.now (known_in numbers.old))) (Mention name.now) ≡ Ok (state_with maker.new i (Inside prefix.now (known_in numbers.new)))) }
+    ensures fault { (i : ℕ) → IfErr result (IsFaultOf (local_step (state_with maker.old i (Inside prefix.now (known_in numbers.old))) (Mention name.now))) }
 {
     match numbers.get(name) {
         Some(number) => Ok(number),
-        None => add_inside(alloc, maker, prefix, numbers, name),
+        None => add_inside(label, maker, prefix, numbers, name),
     }
 }
 
@@ -89,9 +106,11 @@ impl Walker {
             scope: Scope {
                 is_top: true,
                 prefix: String::new(alloc),
-                numbers: Table::new(alloc, key),
+                numbers: KnownNames::new(alloc, key),
             },
             inputs: Vec::new(alloc),
+            label: String::new(alloc),
+            kept: Kept::new(alloc),
         }
     }
 
@@ -117,11 +136,11 @@ impl Walker {
             self.maker.mention(name)
         } else {
             mention_inside(
-                self.alloc,
+                &mut self.label,
                 &mut self.maker,
                 &self.scope.prefix,
                 &mut self.scope.numbers,
-                text_of(name),
+                name,
             )
         }
     }

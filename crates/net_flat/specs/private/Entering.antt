@@ -11,3 +11,7 @@ pub record HasEntered (old : State) (number : ℕ) (connections : List Token) (o
   pub mentioned : local_walked old (Enter ∷ actual_steps connections) ≡ Ok (state_with new.net new.instances (local_in outer))
   pub inside : AreInside (state_with new.net new.instances (local_in outer))
   pub went : new ≡ entered (state_with new.net new.instances (local_in outer)) number connections
+
+-- what is connected was mentioned, where the instance has no body to enter
+abbrev pub HasMentioned : State → List Token → State → Type 0
+HasMentioned old connections new = local_walked old (Enter ∷ actual_steps connections) ≡ Ok new

@@ -1,0 +1,112 @@
+//! Marks of names, by the places where these are likely to stand.
+ghost use Rattle.std.specs.Prelude.{◌≡◌, ℕ, List, Some, IfSome, IsTrue, OnOk, OnErr};
+ghost use Rattle.indexmap.specs.IndexMap.{get_by_text};
+ghost use Rattle.text_core.specs.Lines.{IsPrinting};
+ghost use Rattle.net_flat.specs.private.Marking.{StandsAt, with_mark};
+
+use crate::mark::Mark;
+use crate::namer::is_same;
+use crate::order::Order;
+use indexmap::IndexMap;
+use net_blif::text_of;
+use net_core::KeyedHash;
+use std::alloc::{AllocError, Global};
+
+// The mark of a name, if it stands at this place.
+fn mark_at(marks: &IndexMap<String, Mark, KeyedHash>, place: usize, name: &[u8]) -> Option<Mark>
+    ensures { IfSome result (λ mark. get_by_text marks.now name.now ≡ Some mark) }
+{
+    match marks.get_index(place) {
+        Some((key, mark)) => {
+            if is_same(key.as_bytes(), name) {
+                Some(*mark)
+            } else {
+                None
+            }
+        }
+        None => None,
+    }
+}
+
+// Where a name stands, or behind all, and its mark.
+fn search(marks: &IndexMap<String, Mark, KeyedHash>, name: &str) -> (usize, Option<Mark>)
+    ensures { result.1 ≡ get_by_text marks.now name.now }
+{
+    match marks.get_full(name) {
+        Some((place, _, mark)) => (place, Some(*mark)),
+        None => (marks.len(), None),
+    }
+}
+
+/// Where a name stands, or behind all, and its mark. It is looked for where the order says first.
+pub fn seek(
+    marks: &IndexMap<String, Mark, KeyedHash>,
+    order: &mut Order,
+    name: &[u8],
+) -> (usize, Option<Mark>)
+    requires { IsPrinting name.now }
+    ensures { result.1 ≡ get_by_text marks.now name.now }
+{
+    let hint = order.hint();
+    if let Some(mark) = mark_at(marks, hint, name) {
+        order.pass();
+        return (hint, Some(mark));
+    }
+    let (place, mark) = search(marks, text_of(name));
+    order.put(place);
+    (place, mark)
+}
+
+// Whether a name stands at this place.
+fn stands_at(marks: &IndexMap<String, Mark, KeyedHash>, place: usize, name: &[u8]) -> bool
+    ensures { IsTrue result → StandsAt marks.now place name.now }
+{
+    match marks.get_index(place) {
+        Some((key, _)) => is_same(key.as_bytes(), name),
+        None => false,
+    }
+}
+
+// Gives the name that stands at this place a mark.
+fn write_at(marks: &mut IndexMap<String, Mark, KeyedHash>, place: usize, name: &[u8], mark: Mark)
+    requires { StandsAt marks.old place name.now }
+    ensures { (q : List ℕ) → get_by_text marks.new q ≡ with_mark (get_by_text marks.old) name.now mark q }
+{
+    let (_, old) = marks.pair_mut(place);
+    *old = mark;
+}
+
+// Gives a name a mark, wherever it stands.
+fn write(
+    alloc: Global,
+    marks: &mut IndexMap<String, Mark, KeyedHash>,
+    name: &str,
+    mark: Mark,
+) -> Result<(), AllocError>
+    ensures made { OnOk result ((q : List ℕ) → get_by_text marks.new q ≡ with_mark (get_by_text marks.old) name.now mark q) }
+    ensures unchanged { OnErr result ((q : List ℕ) → get_by_text marks.new q ≡ get_by_text marks.old q) }
+{
+    let key = String::from_str(alloc, name)?;
+    marks.insert(key, mark)?;
+    Ok(())
+}
+
+/// Gives a name a mark. It is likely to stand at this place.
+pub fn put(
+    alloc: Global,
+    marks: &mut IndexMap<String, Mark, KeyedHash>,
+    place: usize,
+    name: &[u8],
+    mark: Mark,
+) -> Result<(), AllocError>
+    requires { IsPrinting name.now }
+    ensures made { OnOk result ((q : List ℕ) → get_by_text marks.new q ≡ with_mark (get_by_text marks.old) name.now mark q) }
+    ensures unchanged { OnErr result ((q : List ℕ) → get_by_text marks.new q ≡ get_by_text marks.old q) }
+{
+    if stands_at(marks, place, name) {
+        write_at(marks, place, name, mark);
+        Ok(())
+    } else {
+        write(alloc, marks, text_of(name), mark)
+    }
+}
