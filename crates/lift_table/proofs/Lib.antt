@@ -6,6 +6,8 @@ pub mod ProductsLemmas
 pub mod RowLemmas
 pub mod ReadingLemmas
 pub mod OneOutcomeLemmas
+pub mod DecidedLemmas
+pub mod ExistsLemmas
 pub mod PolynomialLemmas
 pub mod LiftingLemmas
 pub mod CircuitWordLemmas

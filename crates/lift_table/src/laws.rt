@@ -1,5 +1,5 @@
 //! Laws of tables. These functions do nothing: their contracts are proved of the definitions alone.
-ghost use Rattle.std.specs.Prelude.{◌≡◌, ◌<◌, ◌*◌, ◌/◌, ◌%◌, ◌^◌, ℕ, List, Some, length, slice_get};
+ghost use Rattle.std.specs.Prelude.{◌≡◌, ◌<◌, ◌*◌, ◌/◌, ◌%◌, ◌^◌, ℕ, List, Result, Some, length, slice_get};
 ghost use Rattle.std.specs.List.{AllByRecursion};
 ghost use Rattle.outcome.specs.Outcome.{Determined};
 ghost use Rattle.gf_field.specs.Element.{AreElements};
@@ -11,6 +11,7 @@ ghost use Rattle.lift_table.specs.OneWord.{value_of, IsFunction};
 ghost use Rattle.lift_table.specs.Table.{row_of};
 ghost use Rattle.lift_table.specs.TablePolynomial.{HasOnePolynomial};
 ghost use Rattle.lift_table.specs.TableText.{TableOutcome};
+ghost use Rattle.lift_table.specs.declared.fault.TableFault.{TableFault};
 
 use gf_field::Field;
 
@@ -25,6 +26,11 @@ pub fn rows_are_digits()
 /// At most one table or fault comes of a text.
 pub fn one_table_or_fault()
     ensures { (k n : ℕ) (bytes : List ℕ) → Determined (TableOutcome k n bytes) }
+{}
+
+/// Of each text there is a table or a fault.
+pub fn some_table_or_fault()
+    ensures { (k n : ℕ) (bytes : List ℕ) → (outcome : Result (List ℕ) TableFault) × TableOutcome k n bytes outcome }
 {}
 
 /// In one word the polynomial with the coefficients of a function has the function's values.

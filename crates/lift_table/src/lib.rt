@@ -17,7 +17,7 @@ mod writing;
 pub use fault::TableFault;
 pub use laws::{
     coefficients_have_the_values, one_circuit_table, one_table_or_fault, one_table_polynomial,
-    rows_are_digits, table_polynomials_are_outputs,
+    rows_are_digits, some_table_or_fault, table_polynomials_are_outputs,
 };
 pub use lifting::lift;
 pub use reading::read_table;

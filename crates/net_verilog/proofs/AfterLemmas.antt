@@ -18,13 +18,9 @@ use Rattle.net_verilog.specs.declared.operator.Next.{Next}
 use Rattle.net_verilog.specs.declared.operator.Next.TheVariants as nexts
 use Rattle.net_verilog.specs.declared.fault.VerilogFault.{VerilogFault}
 use Rattle.net_verilog.specs.declared.fault.VerilogFault.TheVariants as faults
-use Rattle.net_verilog.specs.private.Standing.{Standing, Holding, allows}
+use Rattle.net_verilog.specs.private.Standing.{BreaksHeld, Standing, StaysHeld, Holding, allows}
 use Rattle.net_verilog.proofs.EndLemmas.{close_group, group_refused, left_refused, push_left, raised, whole}
 use Rattle.net_verilog.proofs.StepLemmas.{stack_more}
-
--- what ending all that a cap ends keeps
-abbrev pub Keeps : ℕ → NetList → List Frame → Driver → NetList → List Frame → Driver → Type 0
-Keeps cap net old driver more new last = (declared : Declarations) → (start : NetList) → (tokens : List TokenValue) → (here : List TokenValue) → Holding declared start tokens cap net old driver here → Holding declared start tokens cap more new last here
 
 -- a fault where an operand was read
 abbrev pub Refuses : NetList → List Frame → Driver → List TokenValue → VerilogFault → Type 0
@@ -36,12 +32,12 @@ ends_before cap here t ts next split is same =
     let at : binding_at here ≡ binding next = ap binding_at split ∙ ap binding is in
     omega (arith, at, same)
 
-pub end_fault : (cap : ℕ) (net : NetList) (old : List Frame) (driver : Driver) (here : List TokenValue) (fault : VerilogFault) → cap ≤ binding_at here → (fault ≡ faults.OutOfMemory) ⊎ ((declared : Declarations) → (start : NetList) → (tokens : List TokenValue) → (here : List TokenValue) → Holding declared start tokens cap net old driver here → Expression declared start tokens (Err fault)) → (fault ≡ faults.OutOfMemory) ⊎ Refuses net old driver here fault
+pub end_fault : (cap : ℕ) (net : NetList) (old : List Frame) (driver : Driver) (here : List TokenValue) (fault : VerilogFault) → cap ≤ binding_at here → (fault ≡ faults.OutOfMemory) ⊎ BreaksHeld cap net old driver fault → (fault ≡ faults.OutOfMemory) ⊎ Refuses net old driver here fault
 end_fault cap net old driver here fault ends (inl e) = inl e
 end_fault cap net old driver here fault ends (inr refuses) = inr (λ declared start tokens h. refuses declared start tokens here (raised declared start tokens net old driver here 0 cap (omega arith) ends h))
 
 -- what stands where an operand was read, and after all that the cap ends
-module _ (cap : ℕ) (net more : NetList) (old mid : List Frame) (driver last : Driver) (here : List TokenValue) (t : TokenValue) (ts : List TokenValue) (split : here ≡ t ∷ ts) (ends : cap ≤ binding_at here) (keeps : Keeps cap net old driver more mid last) where
+module _ (cap : ℕ) (net more : NetList) (old mid : List Frame) (driver last : Driver) (here : List TokenValue) (t : TokenValue) (ts : List TokenValue) (split : here ≡ t ∷ ts) (ends : cap ≤ binding_at here) (keeps : StaysHeld cap net old driver more mid last) where
   after_ends : (declared : Declarations) (start : NetList) (tokens : List TokenValue) → Holding declared start tokens 0 net old driver here → Holding declared start tokens cap more mid last (t ∷ ts)
   after_ends declared start tokens h =
       let P : List TokenValue → Type 0 = λ r. Holding declared start tokens cap more mid last r in

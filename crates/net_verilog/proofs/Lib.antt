@@ -20,3 +20,6 @@ pub mod AssignLemmas
 pub mod SeveralLemmas
 pub mod InputLemmas
 pub mod StatementDetermined
+pub mod LeavesLemmas
+pub mod SomeExpressionLemmas
+pub mod ExistsLemmas

@@ -37,7 +37,7 @@ impl<'a> Cursor<'a> {
         }
     }
 
-    // The same place with another answer to whether all of the line so far is white.
+    // This place, with another answer to whether all of the line so far is white.
     fn with(&self, first: bool) -> Cursor<'a>
         ensures rest { result.rest.now ≡ self.now.rest.now }
         ensures line { result.line ≡ self.now.line }

@@ -1,13 +1,11 @@
 //! The reader of expressions.
-ghost use Rattle.std.specs.Prelude.{◌≡◌, ◌⊎◌, ◌<◌, ◌≤◌, ◌∷◌, [], List, None, Some, Ok, Err, IfOk, IfErr, IfSome, IfNone, OnOk, length, drop};
-ghost use Rattle.net_core.specs.NetList.{NetList, nets};
-ghost use Rattle.net_verilog.specs.Tokens.{TokenValue};
-ghost use Rattle.net_verilog.specs.Declarations.{Declarations};
+ghost use Rattle.std.specs.Prelude.{◌≡◌, ◌⊎◌, ◌<◌, ◌≤◌, ◌∷◌, [], None, Some, Ok, Err, IfOk, IfErr, IfSome, IfNone, OnOk, length, drop};
+ghost use Rattle.net_core.specs.NetList.{nets};
 ghost use Rattle.net_verilog.specs.Tree.{looseness as looseness_of};
 ghost use Rattle.net_verilog.specs.Expression.{Expression};
 ghost use Rattle.net_verilog.specs.private.Gates.{IsDriverOn, IsLastOn, IsStackOn};
 ghost use Rattle.net_verilog.specs.private.Places.{left};
-ghost use Rattle.net_verilog.specs.private.Standing.{Holding, Met, Standing, allows};
+ghost use Rattle.net_verilog.specs.private.Standing.{BreaksExpression, BreaksHeld, EndsExpression, LeadsTo, StaysHeld, allows};
 
 use crate::gates::{mentioned, settle};
 use crate::stack::Stack;
@@ -37,12 +35,12 @@ fn begin<'a>(
     place: &Cursor<'a>,
 ) -> Result<(Option<Driver>, Cursor<'a>), VerilogFault>
     requires on { IsStackOn maker.old stack.old }
-    ensures met { IfOk result (λ r. (start : NetList) → (tokens : List TokenValue) → Standing declared.now start tokens maker.old stack.old (left place.now) → Met declared.now start tokens maker.new stack.new r.0 (left r.1)) }
+    ensures met { IfOk result (λ r. LeadsTo declared.now maker.old stack.old None (left place.now) maker.new stack.new r.0 (left r.1)) }
     ensures on { OnOk result (IsStackOn maker.new stack.new) }
     ensures last { IfOk result (λ r. IsLastOn maker.new r.0) }
     ensures shorter { IfOk result (λ r. length r.1.rest.now < length place.now.rest.now) }
     ensures grows { OnOk result (nets maker.old ≤ nets maker.new) }
-    ensures fault { IfErr result (λ e. (e ≡ VerilogFault.OutOfMemory) ⊎ ((start : NetList) → (tokens : List TokenValue) → Standing declared.now start tokens maker.old stack.old (left place.now) → Expression declared.now start tokens (Err e))) }
+    ensures fault { IfErr result (λ e. (e ≡ VerilogFault.OutOfMemory) ⊎ BreaksExpression declared.now maker.old stack.old None (left place.now) e) }
 {
     let (token, after) = place.next();
     if is_end(token.kind) {
@@ -94,14 +92,14 @@ fn end_one(
 ) -> Result<Option<Driver>, VerilogFault>
     requires driver { IsDriverOn maker.old driver }
     requires on { IsStackOn maker.old stack.old }
-    ensures ended { IfOk result (λ r. IfSome r (λ ended. (declared : Declarations) → (start : NetList) → (tokens : List TokenValue) → (here : List TokenValue) → Holding declared start tokens cap maker.old stack.old driver here → Holding declared start tokens cap maker.new stack.new ended here)) }
+    ensures ended { IfOk result (λ r. IfSome r (λ ended. StaysHeld cap maker.old stack.old driver maker.new stack.new ended)) }
     ensures none { IfOk result (λ r. IfNone r ((maker.new ≡ maker.old) × (stack.new ≡ stack.old) × (cap ≤ 3 → cap ≤ allows stack.new))) }
     ensures group { IfOk result (λ r. IfNone r (cap ≡ 3 → (stack.new ≡ []) ⊎ (stack.new ≡ Frame.Group ∷ drop 1 stack.new))) }
     ensures on { OnOk result (IsStackOn maker.new stack.new) }
     ensures last { IfOk result (λ r. IfSome r (λ ended. IsDriverOn maker.new ended)) }
     ensures shorter { IfOk result (λ r. IfSome r (λ ended. length stack.new < length stack.old)) }
     ensures grows { OnOk result (nets maker.old ≤ nets maker.new) }
-    ensures fault { IfErr result (λ e. (e ≡ VerilogFault.OutOfMemory) ⊎ ((declared : Declarations) → (start : NetList) → (tokens : List TokenValue) → (here : List TokenValue) → Holding declared start tokens cap maker.old stack.old driver here → Expression declared start tokens (Err e))) }
+    ensures fault { IfErr result (λ e. (e ≡ VerilogFault.OutOfMemory) ⊎ BreaksHeld cap maker.old stack.old driver e) }
 {
     match stack.top() {
         None => Ok(None),
@@ -150,13 +148,13 @@ fn end_all(
     requires driver { IsDriverOn maker.old driver }
     requires on { IsStackOn maker.old stack.old }
     requires cap { cap ≤ 3 }
-    ensures ended { IfOk result (λ ended. (declared : Declarations) → (start : NetList) → (tokens : List TokenValue) → (here : List TokenValue) → Holding declared start tokens cap maker.old stack.old driver here → Holding declared start tokens cap maker.new stack.new ended here) }
+    ensures ended { IfOk result (λ ended. StaysHeld cap maker.old stack.old driver maker.new stack.new ended) }
     ensures room { OnOk result (cap ≤ allows stack.new) }
     ensures group { OnOk result (cap ≡ 3 → (stack.new ≡ []) ⊎ (stack.new ≡ Frame.Group ∷ drop 1 stack.new)) }
     ensures on { OnOk result (IsStackOn maker.new stack.new) }
     ensures last { IfOk result (λ ended. IsDriverOn maker.new ended) }
     ensures grows { OnOk result (nets maker.old ≤ nets maker.new) }
-    ensures fault { IfErr result (λ e. (e ≡ VerilogFault.OutOfMemory) ⊎ ((declared : Declarations) → (start : NetList) → (tokens : List TokenValue) → (here : List TokenValue) → Holding declared start tokens cap maker.old stack.old driver here → Expression declared start tokens (Err e))) }
+    ensures fault { IfErr result (λ e. (e ≡ VerilogFault.OutOfMemory) ⊎ BreaksHeld cap maker.old stack.old driver e) }
 {
     let mut last = driver;
     loop {
@@ -180,14 +178,14 @@ fn go_on<'a>(
 ) -> Result<Result<(Option<Driver>, Cursor<'a>), Driver>, VerilogFault>
     requires driver { IsDriverOn maker.old driver }
     requires on { IsStackOn maker.old stack.old }
-    ensures met { IfOk result (λ r. IfOk r (λ more. (declared : Declarations) → (start : NetList) → (tokens : List TokenValue) → Holding declared start tokens 0 maker.old stack.old driver (left place.now) → Met declared start tokens maker.new stack.new more.0 (left more.1))) }
+    ensures met { IfOk result (λ r. IfOk r (λ to. (declared : _) → LeadsTo declared maker.old stack.old (Some driver) (left place.now) maker.new stack.new to.0 (left to.1))) }
     ensures on { OnOk result (IsStackOn maker.new stack.new) }
     ensures last { IfOk result (λ r. IfOk r (λ more. IsLastOn maker.new more.0)) }
     ensures shorter { IfOk result (λ r. IfOk r (λ more. length more.1.rest.now < length place.now.rest.now)) }
-    ensures done { IfOk result (λ r. IfErr r (λ last. (declared : Declarations) → (start : NetList) → (tokens : List TokenValue) → Holding declared start tokens 0 maker.old stack.old driver (left place.now) → Expression declared start tokens (Ok (record { net = maker.new; driver = last; rest = left place.now })))) }
+    ensures done { IfOk result (λ r. IfErr r (λ last. (declared : _) → EndsExpression declared maker.old stack.old (Some driver) (left place.now) maker.new last)) }
     ensures end { IfOk result (λ r. IfErr r (λ last. IsDriverOn maker.new last)) }
     ensures grows { OnOk result (nets maker.old ≤ nets maker.new) }
-    ensures fault { IfErr result (λ e. (e ≡ VerilogFault.OutOfMemory) ⊎ ((declared : Declarations) → (start : NetList) → (tokens : List TokenValue) → Holding declared start tokens 0 maker.old stack.old driver (left place.now) → Expression declared start tokens (Err e))) }
+    ensures fault { IfErr result (λ e. (e ≡ VerilogFault.OutOfMemory) ⊎ ((declared : _) → BreaksExpression declared maker.old stack.old (Some driver) (left place.now) e)) }
 {
     let (token, after) = place.next();
     match next_of(token.kind) {
@@ -240,14 +238,14 @@ fn step<'a>(
 ) -> Result<Result<(Option<Driver>, Cursor<'a>), Driver>, VerilogFault>
     requires last { IsLastOn maker.old last }
     requires on { IsStackOn maker.old stack.old }
-    ensures met { IfOk result (λ r. IfOk r (λ more. (start : NetList) → (tokens : List TokenValue) → Met declared.now start tokens maker.old stack.old last (left place.now) → Met declared.now start tokens maker.new stack.new more.0 (left more.1))) }
+    ensures met { IfOk result (λ r. IfOk r (λ to. LeadsTo declared.now maker.old stack.old last (left place.now) maker.new stack.new to.0 (left to.1))) }
     ensures on { OnOk result (IsStackOn maker.new stack.new) }
     ensures last { IfOk result (λ r. IfOk r (λ more. IsLastOn maker.new more.0)) }
     ensures shorter { IfOk result (λ r. IfOk r (λ more. length more.1.rest.now < length place.now.rest.now)) }
-    ensures done { IfOk result (λ r. IfErr r (λ driver. (start : NetList) → (tokens : List TokenValue) → Met declared.now start tokens maker.old stack.old last (left place.now) → Expression declared.now start tokens (Ok (record { net = maker.new; driver = driver; rest = left place.now })))) }
+    ensures done { IfOk result (λ r. IfErr r (λ driver. EndsExpression declared.now maker.old stack.old last (left place.now) maker.new driver)) }
     ensures end { IfOk result (λ r. IfErr r (λ driver. IsDriverOn maker.new driver)) }
     ensures grows { OnOk result (nets maker.old ≤ nets maker.new) }
-    ensures fault { IfErr result (λ e. (e ≡ VerilogFault.OutOfMemory) ⊎ ((start : NetList) → (tokens : List TokenValue) → Met declared.now start tokens maker.old stack.old last (left place.now) → Expression declared.now start tokens (Err e))) }
+    ensures fault { IfErr result (λ e. (e ≡ VerilogFault.OutOfMemory) ⊎ BreaksExpression declared.now maker.old stack.old last (left place.now) e) }
 {
     match last {
         None => match begin(alloc, maker, declared, stack, place) {

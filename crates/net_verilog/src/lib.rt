@@ -36,7 +36,8 @@ pub use instance::read_instance;
 pub use kind::Kind;
 pub use laws::{
     assigned_net_has_the_value, one_assignment_or_fault, one_expression_or_fault,
-    one_instance_or_fault,
+    one_instance_or_fault, some_assignment_or_fault, some_expression_or_fault,
+    some_instance_or_fault,
 };
 pub use operator::{Driver, Operator};
 use operator::{Frame, Next, Start};

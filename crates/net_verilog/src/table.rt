@@ -10,10 +10,17 @@ use std::alloc::{AllocError, Global};
 use std::marker::Model;
 
 /// What each name is declared as. Contracts see the names in the order of their first declarations.
-#[derive(Drop)]
 pub struct Table {
     alloc: Global,
     names: IndexMap<String, Declared, KeyedHash>,
+}
+
+// By hand, so that a caller that lets one go makes one call, and not one for each part.
+impl Drop for Table {
+    fn drop(self) {
+        let Table { alloc: _, names } = self;
+        drop(names);
+    }
 }
 
 impl Model for Table {

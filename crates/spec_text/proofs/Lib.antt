@@ -11,4 +11,5 @@ pub mod PrefixLemmas
 pub mod SaidLemmas
 pub mod GoodLemmas
 pub mod ReadLemmas
+pub mod ExistsLemmas
 mod Examples

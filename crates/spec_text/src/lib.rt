@@ -7,5 +7,5 @@ mod reader;
 mod scan;
 
 pub use fault::SpecFault;
-pub use laws::one_spec_or_fault;
+pub use laws::{one_spec_or_fault, some_spec_or_fault};
 pub use reader::read_spec;
