@@ -17,11 +17,24 @@ struct Entry {
 }
 
 /// The claim of a certificate and its pairs of generator and multiplier, in their order.
-#[derive(Drop)]
 pub struct CertPairs {
     claim: Poly,
     shared: Vec<Poly>,
     entries: Vec<Entry>,
+}
+
+// By hand, so that a caller that lets one go makes one call, and not one for each part.
+impl Drop for CertPairs {
+    fn drop(self) {
+        let CertPairs {
+            claim,
+            shared,
+            entries,
+        } = self;
+        drop(claim);
+        drop(shared);
+        drop(entries);
+    }
 }
 
 impl Model for CertPairs {

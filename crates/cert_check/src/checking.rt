@@ -38,12 +38,27 @@ pub enum CertVerdict {
 }
 
 // The claim, the shared multipliers, the running sum and the last generator.
-#[derive(Drop)]
 struct Checking {
     claim: Poly,
     shared: Vec<TermList>,
     sum: RunningSum,
     last: LastGenerator,
+}
+
+// By hand, so that a caller that lets one go makes one call, and not one for each part.
+impl Drop for Checking {
+    fn drop(self) {
+        let Checking {
+            claim,
+            shared,
+            sum,
+            last,
+        } = self;
+        drop(claim);
+        drop(shared);
+        drop(sum);
+        drop(last);
+    }
 }
 
 // Refuses a sum of more terms than the bound after the line of this number.
@@ -178,7 +193,16 @@ impl Checking {
             self.sum.flush(alloc, field, circuit, bases)?;
             let remaining = self.sum.len() as u64;
             if remaining == 0 {
-                Ok(CertVerdict::Valid(self.claim))
+                let Checking {
+                    claim,
+                    shared,
+                    sum,
+                    last,
+                } = self;
+                drop(shared);
+                drop(sum);
+                drop(last);
+                Ok(CertVerdict::Valid(claim))
             } else {
                 Ok(CertVerdict::Invalid { remaining })
             }

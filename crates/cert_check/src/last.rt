@@ -16,11 +16,22 @@ use poly_mixed::{Generator, Mono};
 use std::alloc::{AllocError, Global};
 
 // A generator with its monomials and its form, once they were made.
-#[derive(Drop)]
 pub(crate) struct LastGenerator {
     generator: Option<Generator>,
     near: MonoSum,
     form: Option<Form>,
+}
+
+// By hand, so that a caller that lets one go makes one call, and not one for each part.
+impl Drop for LastGenerator {
+    fn drop(self) {
+        let LastGenerator {
+            generator: _,
+            near,
+            form: _,
+        } = self;
+        drop(near);
+    }
 }
 
 // Whether two generators are the same.

@@ -12,11 +12,23 @@ use poly_mixed::Mono;
 use std::alloc::{AllocError, Global};
 
 /// A monomial times the forms of a word's bits: entry i is the coefficient of the form of bit i.
-#[derive(Drop)]
 pub(crate) struct Row {
     pub(crate) mono: Mono,
     pub(crate) word: u32,
     pub(crate) coefficients: Vec<u64>,
+}
+
+// By hand, so that a caller that lets one go makes one call, and not one for each part.
+impl Drop for Row {
+    fn drop(self) {
+        let Row {
+            mono,
+            word: _,
+            coefficients,
+        } = self;
+        drop(mono);
+        drop(coefficients);
+    }
 }
 
 impl Row {

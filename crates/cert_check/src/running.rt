@@ -1,9 +1,9 @@
 //! The running sum of a certificate.
-ghost use Rattle.std.specs.Prelude.{◌≡◌, ◌<◌, ℕ, length, IfOk, OnOk};
+ghost use Rattle.std.specs.Prelude.{◌≡◌, ◌<◌, ℕ, bit_xor, cond, length, IfOk, OnOk};
 ghost use Rattle.lists.specs.Lists.{Has};
 ghost use Rattle.gf_basis.specs.BasisParts.{elements_of, IsBasisOver};
 ghost use Rattle.net_core.specs.NetList.{nets};
-ghost use Rattle.poly_mixed.specs.Polynomial.{IsPolynomialOf, IsReduced};
+ghost use Rattle.poly_mixed.specs.Polynomial.{IsElement, IsPoint, IsPolynomialOf, IsReduced, Point, value};
 ghost use Rattle.circuit_model.specs.Bases.{AreBases};
 ghost use Rattle.cert_check.specs.Certificate.{begun};
 ghost use Rattle.cert_check.specs.Verdict.{IsRunningSum};
@@ -25,6 +25,23 @@ use net_words::Combinational;
 use poly_mixed::{Generator, Poly, Term, scaled_bit};
 use std::alloc::{AllocError, Global};
 
+// Adds the bit of a rank times an element.
+fn add_bit<F: Field>(
+    alloc: Global,
+    field: &F,
+    element: u64,
+    rank: u32,
+    sum: &mut Poly,
+) -> Result<(), AllocError>
+    requires element { IsElement (F.degree field.now) element }
+    requires sum { IsReduced (F.degree field.now) sum.old.terms }
+    ensures reduced { OnOk result (IsReduced (F.degree field.now) sum.new.terms) }
+    ensures values { OnOk result ((p : Point) → IsPoint (F.degree field.now) p → value (F.product field.now) p sum.new.terms ≡ bit_xor (value (F.product field.now) p sum.old.terms) (cond (p.is_one rank) element 0)) }
+{
+    let part = scaled_bit(alloc, field, element, rank)?;
+    sum.add_into(field, &part)
+}
+
 // The sum of the basis elements of the bits of these nets.
 fn word_poly<F: Field>(
     alloc: Global,
@@ -41,8 +58,7 @@ fn word_poly<F: Field>(
     let mut sum = Poly::zero(alloc);
     for place in 0..list.len() {
         let rank = rank(circuit, list[place]);
-        let part = scaled_bit(alloc, field, basis.element(place as u32), rank)?;
-        sum.add_into(field, &part)?;
+        add_bit(alloc, field, basis.element(place as u32), rank, &mut sum)?;
     }
     Ok(sum)
 }
@@ -78,8 +94,7 @@ pub(crate) fn first_sum<F: Field>(
 {
     let mut sum = output_poly(alloc, field, circuit, bases)?;
     sum.add_into(field, claim)?;
-    let map = TermMap::of(alloc, &sum)?;
-    Ok(map)
+    TermMap::of(alloc, &sum)
 }
 
 // Adds the product of a generator and the terms of a multiplier.

@@ -20,11 +20,20 @@ use std::collections::BTreeMap;
 
 /// A polynomial, and rows that are not yet added to it. Where `places` has no place of a monomial's row, or another, only
 /// time is lost.
-#[derive(Drop)]
 pub(crate) struct RunningSum {
     poly: TermMap,
     rows: Vec<Row>,
     places: BTreeMap<Mono, usize>,
+}
+
+// By hand, so that a caller that lets one go makes one call, and not one for each part.
+impl Drop for RunningSum {
+    fn drop(self) {
+        let RunningSum { poly, rows, places } = self;
+        drop(poly);
+        drop(rows);
+        drop(places);
+    }
 }
 
 // Whether so many terms and rows of k coefficients are within the bound.

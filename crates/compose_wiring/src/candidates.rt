@@ -21,11 +21,20 @@ use std::marker::Model;
 /// What may feed words. Contracts see the list of it. A table has the first candidate of each key, and each candidate leads to
 /// the next one with the same key. Words with one key stand on the same nets and have the same basis, as no name has a space, so
 /// the first one is the one looked for, and a search takes what the word is long; the proofs do without that.
-#[derive(Drop)]
 pub(crate) struct Candidates<'a> {
     list: Vec<Candidate<'a>>,
     firsts: Table,
     next: Vec<Option<u32>>,
+}
+
+// By hand, so that a caller that lets one go makes one call, and not one for each part.
+impl<'a> Drop for Candidates<'a> {
+    fn drop(self) {
+        let Candidates { list, firsts, next } = self;
+        drop(list);
+        drop(firsts);
+        drop(next);
+    }
 }
 
 impl<'a> Model for Candidates<'a> {

@@ -13,10 +13,17 @@ use std::alloc::{AllocError, Global};
 use std::marker::Model;
 
 // Names that were met. Contracts see the list of them.
-#[derive(Drop)]
 struct NameSet {
     alloc: Global,
     names: IndexSet<String, KeyedHash>,
+}
+
+// By hand, so that a caller that lets one go makes one call, and not one for each part.
+impl Drop for NameSet {
+    fn drop(self) {
+        let NameSet { alloc: _, names } = self;
+        drop(names);
+    }
 }
 
 impl Model for NameSet {

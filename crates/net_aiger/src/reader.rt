@@ -13,7 +13,6 @@ use std::alloc::{AllocError, Global};
 use std::marker::Model;
 
 /// The header, the lines read so far, and the names given so far.
-#[derive(Drop)]
 pub(crate) struct Reader {
     pub(crate) alloc: Global,
     pub(crate) header: Header,
@@ -35,6 +34,28 @@ impl Model for Reader {
     ghost view = { λ r. record { header = r.header; ports = r.ports.items; latches = r.latches.items; ands = r.ands.items; defined = r.defined.keys; uses = r.uses.items; symbols = r.symbols.entries } };
 
     ghost invariant = { λ r. (length r.defined.keys < 2 ^ 32) × All (λ s. IsNetName s.1) r.symbols.entries };
+}
+
+// By hand, so that a caller that lets one go makes one call, and not one for each list.
+impl Drop for Reader {
+    fn drop(self) {
+        let Reader {
+            alloc: _,
+            header: _,
+            ports,
+            latches,
+            ands,
+            defined,
+            uses,
+            symbols,
+        } = self;
+        drop(ports);
+        drop(latches);
+        drop(ands);
+        drop(defined);
+        drop(uses);
+        drop(symbols);
+    }
 }
 
 impl Reader {

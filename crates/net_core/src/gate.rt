@@ -9,11 +9,22 @@ use std::marker::Model;
 /// A gate: an output, at most 6 inputs and a table, which has a bit for each choice of the inputs' values.
 /// Where input i has the value `v_i`, the output is bit `sum of v_i * 2^i` of the table.
 /// One net may stand twice among the inputs.
-#[derive(Drop)]
 pub struct Gate {
     out: u32,
     inputs: SmallVec<u32, 6>,
     table: u64,
+}
+
+// By hand, so that a caller that lets one go makes one call, and not one for each part.
+impl Drop for Gate {
+    fn drop(self) {
+        let Gate {
+            out: _,
+            inputs,
+            table: _,
+        } = self;
+        drop(inputs);
+    }
 }
 
 impl Model for Gate {

@@ -16,7 +16,6 @@ const MAX_GATES: usize = 1 << 20;
 
 /// A net list in the making. Contracts see it as the net list that was made so far.
 /// A call that is refused leaves it as it was.
-#[derive(Drop)]
 pub struct NetMaker {
     alloc: Global,
     places: Places,
@@ -25,6 +24,27 @@ pub struct NetMaker {
     outputs: Vec<u32>,
     gates: Vec<Gate>,
     latches: Vec<Latch>,
+}
+
+// By hand, so that a caller that lets one go makes one call, and not one for each part.
+impl Drop for NetMaker {
+    fn drop(self) {
+        let NetMaker {
+            alloc: _,
+            places,
+            labels,
+            inputs,
+            outputs,
+            gates,
+            latches,
+        } = self;
+        drop(places);
+        drop(labels);
+        drop(inputs);
+        drop(outputs);
+        drop(gates);
+        drop(latches);
+    }
 }
 
 impl Model for NetMaker {

@@ -19,10 +19,18 @@ use std::marker::Model;
 /// A sound net. Contracts see it as its net list.
 /// The type keeps that each net has exactly one driver, that no gates drive each other in a cycle,
 /// and that nets, gates and latches are within their limits of 1,048,576.
-#[derive(Drop)]
 pub struct Net {
     made: NetMaker,
     levels: Vec<Option<u32>>,
+}
+
+// By hand, so that a caller that lets one go makes one call, and not one for each part.
+impl Drop for Net {
+    fn drop(self) {
+        let Net { made, levels } = self;
+        drop(made);
+        drop(levels);
+    }
 }
 
 impl Model for Net {

@@ -12,10 +12,17 @@ use std::alloc::{AllocError, Global};
 // For each hash of a name the last net whose name has it. A name is hashed once, and is not kept a second time:
 // the labels tell whether the net has the name that is looked for. The hash has a key, since names that collide
 // in a hash without one can be made.
-#[derive(Drop)]
 pub(crate) struct Places {
     hash: KeyedHash,
     last: IndexMap<u64, u32>,
+}
+
+// By hand, so that a caller that lets one go makes one call, and not one for each part.
+impl Drop for Places {
+    fn drop(self) {
+        let Places { hash: _, last } = self;
+        drop(last);
+    }
 }
 
 impl Places {

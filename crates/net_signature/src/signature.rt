@@ -7,7 +7,6 @@ use net_words::{FeedText, WordText};
 use std::marker::Model;
 
 /// A field, words with their bases and nets, feeds, and blocks. Contracts see its parts.
-#[derive(Drop)]
 pub struct Signature {
     modulus: u128,
     tower: Numbers<u64>,
@@ -15,6 +14,25 @@ pub struct Signature {
     words: Vec<WordText>,
     feeds: Vec<FeedText>,
     blocks: Vec<Block>,
+}
+
+// By hand, so that a caller that lets one go makes one call, and not one for each part.
+impl Drop for Signature {
+    fn drop(self) {
+        let Signature {
+            modulus: _,
+            tower,
+            upper,
+            words,
+            feeds,
+            blocks,
+        } = self;
+        drop(tower);
+        drop(upper);
+        drop(words);
+        drop(feeds);
+        drop(blocks);
+    }
 }
 
 impl Model for Signature {

@@ -20,7 +20,6 @@ pub struct BoundWord {
 }
 
 /// Words that are bound to the nets of a netlist.
-#[derive(Drop)]
 pub struct Bound {
     k: u32,
     words: Vec<BoundWord>,
@@ -31,6 +30,24 @@ pub struct Bound {
     order: Vec<u32>,
     // The place of each net in this order.
     ranks: Vec<u32>,
+}
+
+// By hand, so that a caller that lets one go makes one call, and not one for each part.
+impl Drop for Bound {
+    fn drop(self) {
+        let Bound {
+            k: _,
+            words,
+            feeds,
+            nets: _,
+            order,
+            ranks,
+        } = self;
+        drop(words);
+        drop(feeds);
+        drop(order);
+        drop(ranks);
+    }
 }
 
 impl Model for Bound {

@@ -11,10 +11,18 @@ use std::marker::Model;
 
 /// A net without latches, with words that are bound to it: the bits of input, state and fed words are different primary
 /// inputs, and the output word depends on them alone.
-#[derive(Drop)]
 pub struct Combinational {
     net: Net,
     binding: Bound,
+}
+
+// By hand, so that a caller that lets one go makes one call, and not one for each part.
+impl Drop for Combinational {
+    fn drop(self) {
+        let Combinational { net, binding } = self;
+        drop(net);
+        drop(binding);
+    }
 }
 
 impl Model for Combinational {

@@ -26,7 +26,6 @@ pub enum BasisText {
 }
 
 /// The line of a word.
-#[derive(Drop)]
 pub struct WordText {
     /// The number of its line, from 1.
     pub line: u32,
@@ -38,4 +37,20 @@ pub struct WordText {
     pub basis: BasisText,
     /// The names of its nets, place 0 first.
     pub nets: Names,
+}
+
+// By hand, so that a caller that lets one go makes one call, and not one for each part.
+impl Drop for WordText {
+    fn drop(self) {
+        let WordText {
+            line: _,
+            name,
+            role: _,
+            basis,
+            nets,
+        } = self;
+        drop(name);
+        drop(basis);
+        drop(nets);
+    }
 }

@@ -16,7 +16,6 @@ use net_words::{Bound, Source};
 
 /// A net with its words, how many cycles follow the first, which nets are fed and which are in state words, what the fed nets
 /// hold in each cycle, and where the bits of the fed words begin.
-#[derive(Drop)]
 pub struct Plan {
     pub net: Net,
     pub binding: Bound,
@@ -32,6 +31,27 @@ pub struct Plan {
     ghost are_held: { AreMarks (nets net) (in_word State binding.words) held.items },
     ghost are_sources: { AreSources net binding cycles sources.items },
     ghost are_firsts: { AreFirstBits net binding cycles firsts.items },
+}
+
+// By hand, so that a caller that lets one go makes one call, and not one for each part.
+impl Drop for Plan {
+    fn drop(self) {
+        let Plan {
+            net,
+            binding,
+            cycles: _,
+            fed,
+            held,
+            sources,
+            firsts,
+        } = self;
+        drop(net);
+        drop(binding);
+        drop(fed);
+        drop(held);
+        drop(sources);
+        drop(firsts);
+    }
 }
 
 impl Plan {

@@ -9,10 +9,17 @@ use std::alloc::{AllocError, Global};
 use std::marker::Model;
 
 /// For each name the indexes of those of its bits that are names of declared scalars, as 3 for `a` where `\a[3] ` is one.
-#[derive(Drop)]
 pub struct Scalars {
     alloc: Global,
     lists: IndexMap<String, Vec<u32>, KeyedHash>,
+}
+
+// By hand, so that a caller that lets one go makes one call, and not one for each part.
+impl Drop for Scalars {
+    fn drop(self) {
+        let Scalars { alloc: _, lists } = self;
+        drop(lists);
+    }
 }
 
 impl Model for Scalars {

@@ -12,12 +12,25 @@ use std::alloc::{AllocError, Global};
 use std::marker::Model;
 
 /// Declared names. Contracts see the names with what they are declared as, in the order of their first declarations.
-#[derive(Drop)]
 pub struct Scope {
     alloc: Global,
     key: u64,
     table: Table,
     scalars: Scalars,
+}
+
+// By hand, so that a caller that lets one go makes one call, and not one for each part.
+impl Drop for Scope {
+    fn drop(self) {
+        let Scope {
+            alloc: _,
+            key: _,
+            table,
+            scalars,
+        } = self;
+        drop(table);
+        drop(scalars);
+    }
 }
 
 impl Model for Scope {

@@ -20,6 +20,7 @@ pub mod ReplacedLemmas
 mod CallerLemmas
 mod GatheredPowersLemmas
 mod SomeProductsLemmas
+mod KeptLemmas
 mod ReadFromLemmas
 mod ReadAtOnceLemmas
 mod LinearLemmas

@@ -84,8 +84,7 @@ fn plus_product<F: Field>(
     ensures { IfOk result (IsPlusProduct (F.degree field.now) (F.product field.now) low.now high.now form.now) }
 {
     let times = product(alloc, field, high, form)?;
-    let sum = low.plus(alloc, field, &times)?;
-    Ok(sum)
+    low.plus(alloc, field, &times)
 }
 
 // The term's power of the word times its coefficient.
@@ -142,16 +141,14 @@ fn read_from<F: Field>(
         return Ok(Univariate::zero(alloc));
     }
     if place == field.k() {
-        let last = powers(alloc, field, basis, word, terms)?;
-        return Ok(last);
+        return powers(alloc, field, basis, word, terms);
     }
     let rank = field.k() * word + place;
     let lack = without_bit(alloc, terms, rank)?;
     let low = read_from(alloc, field, basis, forms, word, &lack, place + 1)?;
     let have = with_bit(alloc, terms, rank)?;
     let high = read_from(alloc, field, basis, forms, word, &have, place + 1)?;
-    let sum = plus_product(alloc, field, &low, &high, &forms[place as usize])?;
-    Ok(sum)
+    plus_product(alloc, field, &low, &high, &forms[place as usize])
 }
 
 // All terms by reference.
@@ -243,8 +240,7 @@ fn read_all<F: Field>(
     let forms = forms(alloc, field, basis)?;
     let list = all(alloc, terms)?;
     let powers = read_from(alloc, field, basis, &forms, word, &list, 0)?;
-    let poly = spread_poly(alloc, word, rest, &powers)?;
-    Ok(poly)
+    spread_poly(alloc, word, rest, &powers)
 }
 
 /// The sum of all terms of a polynomial, with their bits of the word read from the word, where all have one monomial beside

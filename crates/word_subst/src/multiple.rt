@@ -68,8 +68,7 @@ fn times_power<F: Field>(
     ensures { IfOk result (λ u. u ≡ multiplied (F.degree field.now) (F.product field.now) (exponent, c) powers.now) }
 {
     if powers.len() < 2 {
-        let few = few_times_power(alloc, field, powers, exponent, c)?;
-        return Ok(few);
+        return few_times_power(alloc, field, powers, exponent, c);
     }
     let k = field.k();
     let table = field.times(c);
@@ -130,8 +129,7 @@ fn shifted<F: Field>(
     let n = low_count(field, all, exponent);
     let low = times_power(alloc, field, &all[..n], exponent, c)?;
     let high = times_power(alloc, field, &all[n..], exponent, c)?;
-    let out = low.plus(alloc, field, &high)?;
-    Ok(out)
+    low.plus(alloc, field, &high)
 }
 
 // The sum of the left's multiples by each of the right's powers.
@@ -165,9 +163,7 @@ pub fn product<F: Field>(
     ensures { IfOk result (IsProductOfTwo (F.degree field.now) (F.product field.now) left.now right.now) }
 {
     if left.len() < right.len() {
-        let swapped = sum_of_multiples(alloc, field, right, left)?;
-        return Ok(swapped);
+        return sum_of_multiples(alloc, field, right, left);
     }
-    let product = sum_of_multiples(alloc, field, left, right)?;
-    Ok(product)
+    sum_of_multiples(alloc, field, left, right)
 }

@@ -17,11 +17,23 @@ use std::marker::Model;
 
 /// The products for a term: of its power of the word with none of its bits of the word, with the first, with the first
 /// two, and so on.
-#[derive(Drop)]
 pub struct BitProducts {
     start: u64,
     ranks: Vec<u32>,
     products: Vec<Univariate>,
+}
+
+// By hand, so that a caller that lets one go makes one call, and not one for each part.
+impl Drop for BitProducts {
+    fn drop(self) {
+        let BitProducts {
+            start: _,
+            ranks,
+            products,
+        } = self;
+        drop(ranks);
+        drop(products);
+    }
 }
 
 impl Model for BitProducts {

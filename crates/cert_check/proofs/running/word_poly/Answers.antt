@@ -34,11 +34,11 @@ loop-place-preserved g c =
     let long : length basis ≡ g.F.Ring.degree c.args.field.now = c.requires.basis.elements.size in
     let up : suc n ≡ n + 1 = omega arith in
     record {
-      reduced = c.in_ok-add_into.ensures.reduced;
+      reduced = c.in_ok-add_bit.ensures.reduced;
       values = λ p at.
           let f = net_bit order p in
-          c.in_ok-add_into.ensures.values p at
-          ∙ ((λ j. bit_xor (i.values p at j) (c.in_ok-part.ensures.values p at j))
+          c.in_ok-add_bit.ensures.values p at
+          ∙ (ap (λ v. bit_xor v (cond (p.is_one c.rank-rank.result) c.element.result 0)) (i.values p at)
           ∙ (ap (λ r. bit_xor (combination (take n basis) (index f (take n list))) (cond (p.is_one r) c.element.result 0)) c.rank-rank.ensures
           ∙ (ap (λ e. bit_xor (combination (take n basis) (index f (take n list))) (cond (p.is_one (rank_among order (get_or list n 0))) e 0)) c.element.ensures
           ∙ (sym (sum_more f basis list n (omega arith) (omega arith))

@@ -1,5 +1,6 @@
-use Rattle.std.proofs.Common.{rules, ◌∙◌, ◌≢◌, ◌<◌, ◌+◌, ◌-◌, ◌*◌, ap, not, ℕ, List, arith}
+use Rattle.std.proofs.Common.{rules, ◌≡◌, ◌∙◌, ◌≢◌, ◌<◌, ◌+◌, ◌-◌, ◌*◌, ap, not, ℕ, List, arith}
 use Rattle.gf_basis.specs.BasisParts.{elements_of}
+use Rattle.std.proofs.lemmas.Result.{IfOk-weaker}
 use Rattle.poly_mixed.specs.Monomial.{has_bit}
 use Rattle.poly_mixed.specs.Polynomial.{IsTerm}
 use Rattle.poly_mixed.proofs.FieldLaws.{field_of}
@@ -9,7 +10,8 @@ use Rattle.word_subst.proofs.at_once.+read_from.Goals as goal
 pub returns-then-place-k : goal.returns-then-place-k
 returns-then-place-k g t c =
     let f = field_of _ _ (g.met.F.Ring.laws c.args.field.now) (g.met.F.Field.no_zero_divisors c.args.field.now) in
-    last_read f (elements_of c.args.basis.now) c.args.word c.args.place _ c.in_ok-last.last (omega (arith, c.if-place-k.true, c.k.ensures)) c.in_ok-last.ensures
+    let at : c.args.place ≡ g.F.Ring.degree c.args.field.now = omega (arith, c.if-place-k.true, c.k.ensures) in
+    IfOk-weaker c.powers.result _ _ (λ last e. last_read f (elements_of c.args.basis.now) c.args.word c.args.place _ last at e) c.powers.ensures
 
 pub read_from-requires : goal.read_from-requires
 read_from-requires g t c κs within =
@@ -45,5 +47,5 @@ returns g t c =
     let rank : ℕ = c.k-2.result * c.args.word + c.args.place in
     let less : c.args.place < k = omega (arith, c.if-place-k.false, c.k.ensures, c.requires.place) in
     let form = form_read k (g.F.Ring.product c.args.field.now) els c.args.place c.args.forms.now c.index-forms-place.result c.requires.forms less c.index-forms-place.is in
-    next_items f els c.args.word c.args.terms.now c.deref.result.now c.deref-2.result.now (λ x. x.now) c.args.place rank c.in_ok-low.low c.in_ok-high.high c.index-forms-place.result c.in_ok-sum.sum less (ap (λ x. x * c.args.word + c.args.place) c.k-2.ensures)
-    (c.deref.ensures.value ∙ c.in_ok-lack.ensures) (c.deref-2.ensures.value ∙ c.in_ok-have.ensures) c.in_ok-low.ensures c.in_ok-high.ensures form c.in_ok-sum.ensures
+    IfOk-weaker c.plus_product.result _ _ (λ sum e. next_items f els c.args.word c.args.terms.now c.deref.result.now c.deref-2.result.now (λ x. x.now) c.args.place rank c.in_ok-low.low c.in_ok-high.high c.index-forms-place.result sum less (ap (λ x. x * c.args.word + c.args.place) c.k-2.ensures)
+    (c.deref.ensures.value ∙ c.in_ok-lack.ensures) (c.deref-2.ensures.value ∙ c.in_ok-have.ensures) c.in_ok-low.ensures c.in_ok-high.ensures form e) c.plus_product.ensures

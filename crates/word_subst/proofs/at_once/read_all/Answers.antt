@@ -1,5 +1,6 @@
 use Rattle.std.proofs.Common.{◌≢◌, ℕ, List}
 use Rattle.gf_basis.specs.BasisParts.{elements_of}
+use Rattle.std.proofs.lemmas.Result.{IfOk-weaker}
 use Rattle.poly_mixed.specs.Polynomial.{IsTerm}
 use Rattle.poly_mixed.proofs.FieldLaws.{field_of}
 use Rattle.word_subst.proofs.GroupLemmas.{some_powers}
@@ -22,4 +23,4 @@ returns g c =
     let els : List ℕ = elements_of c.args.basis.now in
     let f = field_of k (g.F.Ring.product c.args.field.now) (g.met.F.Ring.laws c.args.field.now) (g.met.F.Field.no_zero_divisors c.args.field.now) in
     let is = read_items f els c.args.word c.deref-2.result.now c.in_ok-list.list.items c.args.terms.now (λ t. t.now) c.in_ok-powers.powers c.deref-2.ensures.value c.in_ok-list.ensures c.in_ok-powers.ensures in
-    whole_read f els c.args.word c.in_ok-forms.forms.items c.in_ok-forms.ensures c.args._bound c.requires.wide c.requires.word c.args.rest.now c.args.terms.now c.in_ok-powers.powers c.in_ok-poly.poly.terms c.requires.terms c.requires.rest c.requires.some is c.in_ok-poly.ensures
+    IfOk-weaker c.spread_poly.result _ _ (λ q e. whole_read f els c.args.word c.in_ok-forms.forms.items c.in_ok-forms.ensures c.args._bound c.requires.wide c.requires.word c.args.rest.now c.args.terms.now c.in_ok-powers.powers q.terms c.requires.terms c.requires.rest c.requires.some is e) c.spread_poly.ensures

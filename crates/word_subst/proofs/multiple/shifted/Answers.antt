@@ -1,4 +1,5 @@
 use Rattle.std.proofs.Common.{refl, take, drop, length, ◌-◌}
+use Rattle.std.proofs.lemmas.Result.{IfOk-weaker}
 use Rattle.poly_mixed.proofs.FieldLaws.{field_of}
 use Rattle.word_subst.proofs.MultipleLemmas.{shifted_is}
 use Rattle.word_subst.proofs.multiple.shifted.Goals as goal
@@ -21,5 +22,5 @@ pub returns : goal.returns
 returns g c =
     let all = c.powers-all.result.now in
     let n = c.low_count-n.result in
-    (shifted_is (field_of _ _ (g.met.F.Ring.laws c.args.field.now) (g.met.F.Field.no_zero_divisors c.args.field.now)) (c.args.exponent, c.args.c) c.requires.by n c.args.powers.now all (take n all) (take (length all - n) (drop n all)) c.in_ok-low.low c.in_ok-high.high c.in_ok-out.out c.requires.powers c.powers-all.ensures refl refl
-    c.low_count-n.ensures.low c.low_count-n.ensures.high c.in_ok-low.ensures c.in_ok-high.ensures).1 c.in_ok-out.ensures
+    IfOk-weaker c.plus.result _ _ (λ out e. (shifted_is (field_of _ _ (g.met.F.Ring.laws c.args.field.now) (g.met.F.Field.no_zero_divisors c.args.field.now)) (c.args.exponent, c.args.c) c.requires.by n c.args.powers.now all (take n all) (take (length all - n) (drop n all)) c.in_ok-low.low c.in_ok-high.high out c.requires.powers c.powers-all.ensures refl refl
+    c.low_count-n.ensures.low c.low_count-n.ensures.high c.in_ok-low.ensures c.in_ok-high.ensures).1 e) c.plus.ensures

@@ -1,59 +1,18 @@
-use Rattle.std.proofs.Common.{rules, ◌≡◌, ◌∙◌, ap, subst, refl, ℕ, ◌<◌, ◌-◌, ◌*◌, List, length, get_or, Some, None, arith}
-use Rattle.std.specs.Prelude.{slice_get}
+use Rattle.std.proofs.Common.{rules, ◌≡◌, ◌∙◌, None}
 use Rattle.gf_basis.specs.BasisParts.{elements_of}
-use Rattle.poly_mixed.specs.Monomial.{Monomial}
 use Rattle.poly_mixed.proofs.FieldLaws.{field_of}
-use Rattle.word_subst.specs.Univariate.{IsMultiple}
 use Rattle.word_subst.specs.Rest.{rest_of}
-use Rattle.word_subst.proofs.GroupLemmas.{some_powers}
-use Rattle.word_subst.proofs.OneTermLemmas.{place_in, later_rises}
-use Rattle.word_subst.proofs.ToldLemmas.{got_index, all_quiet, made_product, next_told}
+use Rattle.word_subst.proofs.ToldLemmas.{all_quiet}
 use Rattle.word_subst.proofs.tell.tell.Goals as goal
 
 pub returns-then-not-tells : goal.returns-then-not-tells
 returns-then-not-tells g c =
     let f = field_of _ _ (g.met.F.Ring.laws c.args.field.now) (g.met.F.Field.no_zero_divisors c.args.field.now) in
     let none : g.T.Steps.steps c.args.steps.now ≡ None = search rules in
-    all_quiet f (elements_of c.args._basis.now) c.args.word c.requires.word c.args.term.now c.requires.term c.requires.some c.args._bound c.args.products.now c.requires.products (c.requires.ranks ∙ c.requires.own) c.requires.start (g.T.Steps.steps c.args.steps.now) none
+    all_quiet f (elements_of c.args.basis.now) c.args.word c.requires.word c.args.term.now c.requires.term c.requires.some c.args.bound c.args.products.now c.requires.products (c.requires.ranks ∙ c.requires.own) c.requires.start (g.T.Steps.steps c.args.steps.now) none
 
-pub scaled-requires-clause-powers : goal.scaled-requires-clause-powers
-scaled-requires-clause-powers g c = (c.requires.products.each c.loop-j.j c.at.result.now c.at.ensures).univariate
-
-pub spread_poly-requires-clause-some : goal.spread_poly-requires-clause-some
-spread_poly-requires-clause-some g c = some_powers (g.F.Ring.degree c.args.field.now) c.in_ok-part.part c.in_ok-part.ensures.multiple.univariate
-
-pub with_bits-requires-clause-product : goal.with_bits-requires-clause-product
-with_bits-requires-clause-product g c =
-    let k : ℕ = g.F.Ring.degree c.args.field.now in
-    let mul : ℕ → ℕ → ℕ = g.F.Ring.product c.args.field.now in
-    let w : ℕ = c.args.word in
-    let f = field_of k mul (g.met.F.Ring.laws c.args.field.now) (g.met.F.Field.no_zero_divisors c.args.field.now) in
-    let P : ℕ → Type 0 = λ x. IsMultiple k mul (0, x) c.at.result.now c.in_ok-part.part in
-    (made_product f (elements_of c.args._basis.now) w c.requires.word c.args.term.now c.requires.term c.requires.some c.args._bound c.args.products.now c.requires.products (c.requires.ranks ∙ c.requires.own) c.requires.start c.loop-j.j c.at.result.now c.in_ok-part.part c.in_ok-others.others
-    c.in_ok-product.product.terms c.at.ensures (c.in_ok-others.ensures ∙ (λ i. rest_of (c.k-k.ensures i) w (c.mono.ensures i))) (subst P c.coefficient.ensures c.in_ok-part.ensures.multiple) c.in_ok-product.ensures).reduced
-
-pub with_bits-requires-clause-rising : goal.with_bits-requires-clause-rising
-with_bits-requires-clause-rising g c = later_rises (g.F.Ring.degree c.args.field.now) c.args.word c.args.term.now c.args.own.now c.args.own.now c.loop-j.j c.requires.term c.requires.own refl
-
-pub overflow_sub-place : goal.overflow_sub-place
-overflow_sub-place g c =
-    let r : ℕ = get_or c.args.own.now c.loop-j.j 0 in
-    let less : c.loop-j.j < length c.args.own.now = omega (arith, c.loop-j-test.true) in
-    let P : List ℕ → Type 0 = λ xs. slice_get xs c.loop-j.j ≡ Some r in
-    (place_in (g.F.Ring.degree c.args.field.now) c.args.word c.args.term.now c.k-k.result c.loop-j.j r c.k-k.ensures (subst P c.requires.own (got_index c.args.own.now c.loop-j.j less))).0
+pub tell_bit-requires-clause-others : goal.tell_bit-requires-clause-others
+tell_bit-requires-clause-others g c = c.in_ok-others.ensures ∙ (λ i. rest_of (c.k.ensures i) c.args.word (c.mono.ensures i))
 
 pub loop-j-preserved : goal.loop-j-preserved
-loop-j-preserved g c =
-    let k : ℕ = g.F.Ring.degree c.args.field.now in
-    let mul : ℕ → ℕ → ℕ = g.F.Ring.product c.args.field.now in
-    let els : List ℕ = elements_of c.args._basis.now in
-    let w : ℕ = c.args.word in
-    let t : Monomial × ℕ = c.args.term.now in
-    let own : List ℕ = c.args.own.now in
-    let j : ℕ = c.loop-j.j in
-    let f = field_of k mul (g.met.F.Ring.laws c.args.field.now) (g.met.F.Field.no_zero_divisors c.args.field.now) in
-    let less : j < length own = omega (arith, c.loop-j-test.true) in
-    let P : ℕ → Type 0 = λ x. IsMultiple k mul (0, x) c.at.result.now c.in_ok-part.part in
-    next_told f els w c.requires.word t c.requires.term c.requires.some c.args._bound c.args.products.now c.requires.products (c.requires.ranks ∙ c.requires.own) c.requires.start own j (get_or own j 0 - c.k-k.result * w) c.at.result.now c.in_ok-part.part c.in_ok-others.others
-    c.in_ok-product.product.terms c.in_ok-multiplier.multiplier.terms (g.T.Steps.steps c.args.steps.now) (g.T.Steps.steps c.loop-j.steps) (g.T.Steps.steps c.step.new.self) c.requires.own less (ap (λ x. get_or own j 0 - x * w) c.k-k.ensures) c.at.ensures
-    (c.in_ok-others.ensures ∙ (λ i. rest_of (c.k-k.ensures i) w (c.mono.ensures i))) (subst P c.coefficient.ensures c.in_ok-part.ensures.multiple) c.in_ok-product.ensures c.in_ok-multiplier.ensures c.loop-j.invariant c.in_ok-step.ensures
+loop-j-preserved g c = c.in_ok-tell_bit.ensures (g.T.Steps.steps c.args.steps.now) c.loop-j.invariant
