@@ -13,6 +13,7 @@ use Rattle.job_words.specs.declared.fault.Fault.{Fault}
 use Rattle.job_words.specs.declared.fault.Fault.TheVariants as faults
 use Rattle.job_words.specs.declared.stage_fault.StageFault.{StageFault}
 use Rattle.job_words.specs.Operands.{Word}
+use Rattle.job_words.specs.declared.words.NetWords.{NetWords}
 use Rattle.job_input.specs.CircuitOf.{CircuitIn}
 use Rattle.job_input.specs.SettingValue.{SettingValue}
 use Rattle.answer_certificates.specs.Certificates.{HaveDuals, certificate_labels}
@@ -45,3 +46,7 @@ abbrev pub CertifyAnswer : Option Files → SettingValue → Word → (terms cyc
 CertifyAnswer held setting net terms cycles = do
   circuit ← CircuitIn held setting.signature net cycles
   CertifyReply setting circuit terms
+
+-- so it is with the words of the command
+abbrev pub CertifyAnswerTo : SettingValue → NetWords → Option Files → Outcome Fault Reply
+CertifyAnswerTo setting words held = CertifyAnswer held setting words.net.now words.terms words.cycles

@@ -7,6 +7,7 @@ use Rattle.cert_check.specs.declared.fault.CertFault.{CertFault}
 use Rattle.cert_make.specs.Upgrade.{UpgradeOf}
 use Rattle.job_words.specs.declared.fault.Fault.{Fault}
 use Rattle.job_words.specs.Operands.{Word}
+use Rattle.job_words.specs.declared.words.CyclePairWords.{CyclePairWords}
 use Rattle.job_input.specs.SettingValue.{SettingValue}
 use Rattle.answer_certificates.specs.Certificates.{CertifiedIn, certificate_labels, certificate_fault_of}
 use Rattle.answer_core.specs.Reply.{Reply}
@@ -27,3 +28,7 @@ abbrev pub UpgradeAnswer : Option Files → SettingValue → Word → Word → (
 UpgradeAnswer held setting net file cycles = do
   certified ← CertifiedIn held setting.signature net file cycles
   UpgradeReply setting certified
+
+-- so it is with the words of the command
+abbrev pub UpgradeAnswerTo : SettingValue → CyclePairWords → Option Files → Outcome Fault Reply
+UpgradeAnswerTo setting words held = UpgradeAnswer held setting words.net.now words.other.now words.cycles

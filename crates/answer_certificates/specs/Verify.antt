@@ -11,6 +11,7 @@ use Rattle.cert_check.specs.Verdict.{Verdict, valid, invalid, Check}
 use Rattle.cert_check.specs.declared.fault.CertFault.{CertFault}
 use Rattle.job_words.specs.declared.fault.Fault.{Fault}
 use Rattle.job_words.specs.Operands.{Word}
+use Rattle.job_words.specs.declared.words.PairWords.{PairWords}
 use Rattle.job_input.specs.Labelling.{labels_of}
 use Rattle.job_input.specs.SettingValue.{SettingValue}
 use Rattle.answer_certificates.specs.Certificates.{CertifiedIn, HaveDuals, certificate_labels, sum_fault}
@@ -40,3 +41,7 @@ abbrev pub VerifyAnswer : Option Files → SettingValue → Word → Word → (t
 VerifyAnswer held setting net file terms cycles = do
   certified ← CertifiedIn held setting.signature net file cycles
   VerifyReply setting terms certified
+
+-- so it is with the words of the command
+abbrev pub VerifyAnswerTo : SettingValue → PairWords → Option Files → Outcome Fault Reply
+VerifyAnswerTo setting words held = VerifyAnswer held setting words.net.now words.other.now words.terms words.cycles

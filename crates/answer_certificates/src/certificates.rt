@@ -1,6 +1,5 @@
 //! What the commands over certificates share: their labels, their files, and faults of texts.
 ghost use Rattle.std.specs.Prelude.{◌≡◌, ◌≤◌, ℕ, length, IfOk};
-ghost use Rattle.job_io.specs.Counts.{Rose};
 ghost use Rattle.net_core.specs.Sound.{IsSound};
 ghost use Rattle.net_words.specs.OneCycle.{IsOneCycle};
 ghost use Rattle.job_words.specs.Stop.{GivesBy};
@@ -10,6 +9,7 @@ ghost use Rattle.job_input.specs.declared.setting.Setting.{Setting as SettingOfJ
 ghost use Rattle.answer_certificates.specs.Certificates.{CertifiedBy, CertifiedIn, CertifiedOver, sum_fault, sum_name as name_of_sum, certificate_fault_of};
 ghost use Rattle.answer_certificates.specs.private.CertificateStop.{certified_of};
 ghost use Rattle.answer_core.specs.StageStop.{stage_fault, IsRefusalOf, IsStopOf};
+ghost use Rattle.job_input.specs.Reads.{GivesOver};
 
 use cert_check::CertFault;
 use gf_field::Field;
@@ -63,8 +63,7 @@ pub(crate) fn read_certified<S: Shelf>(
     requires cycles { cycles ≤ 4096 }
     ensures held { S.held shelf.new ≡ S.held shelf.old }
     ensures never_fall { (S.faults shelf.old ≤ S.faults shelf.new) × (S.misses shelf.old ≤ S.misses shelf.new) }
-    ensures gives { GivesBy certified_of result (CertifiedIn (S.held shelf.old) setting.now.signature net.now file.now cycles)
-        (Rose (S.misses shelf.old) (S.misses shelf.new)) (Rose (S.faults shelf.old) (S.faults shelf.new)) }
+    ensures gives { GivesOver S.held S.misses S.faults shelf.old shelf.new certified_of result (λ held. CertifiedIn held setting.now.signature net.now file.now cycles) }
     ensures taken { IfOk result (λ certified. (k : ℕ) (product : ℕ → ℕ → ℕ) → IsReady k product setting.now → IsTakenFor k setting.now certified.circuit) }
     ensures short { IfOk result (λ certified. length certified.text.items ≤ 67108864) }
 {
@@ -86,8 +85,7 @@ fn certified_over<S: Shelf>(
     requires { cycles ≤ 4096 }
     ensures held { S.held shelf.new ≡ S.held shelf.old }
     ensures never_fall { (S.faults shelf.old ≤ S.faults shelf.new) × (S.misses shelf.old ≤ S.misses shelf.new) }
-    ensures gives { GivesBy certified_of result (CertifiedOver (S.held shelf.old) net.now netlist file.now cycles)
-        (Rose (S.misses shelf.old) (S.misses shelf.new)) (Rose (S.faults shelf.old) (S.faults shelf.new)) }
+    ensures gives { GivesOver S.held S.misses S.faults shelf.old shelf.new certified_of result (λ held. CertifiedOver held net.now netlist file.now cycles) }
     ensures taken { IfOk result (λ certified. (k : ℕ) (setting : SettingOfJob) → IsTakenFor k setting netlist → IsTakenFor k setting certified.circuit) }
     ensures short { IfOk result (λ certified. length certified.text.items ≤ 67108864) }
 {

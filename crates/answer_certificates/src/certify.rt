@@ -1,10 +1,10 @@
 //! The command `certify`: the output word's polynomial in the input words, with the steps that lead to it.
 ghost use Rattle.std.specs.Prelude.{◌≡◌, ◌≤◌};
-ghost use Rattle.job_io.specs.Counts.{Rose};
 ghost use Rattle.job_words.specs.Stop.{GivesBy};
 ghost use Rattle.job_input.specs.Setting.{setting_value, IsReady, IsTakenFor};
 ghost use Rattle.answer_core.specs.Reply.{reply_of};
-ghost use Rattle.answer_certificates.specs.Certify.{CertifyReply, CertifyAnswer};
+ghost use Rattle.answer_certificates.specs.Certify.{CertifyReply, CertifyAnswerTo};
+ghost use Rattle.answer_core.specs.Replies.{Replies};
 
 use crate::certificates::certificate_labels;
 use answer_core::{Output, in_words, last_cut, stage_stop};
@@ -27,8 +27,7 @@ pub fn answer<F: Field, S: Shelf>(
     requires { IsReady (F.degree field.now) (F.product field.now) setting.now }
     ensures held { S.held shelf.new ≡ S.held shelf.old }
     ensures never_fall { (S.faults shelf.old ≤ S.faults shelf.new) × (S.misses shelf.old ≤ S.misses shelf.new) }
-    ensures gives { GivesBy reply_of result (CertifyAnswer (S.held shelf.old) (setting_value (F.degree field.now) (F.product field.now) setting.now) words.now.net.now words.now.terms words.now.cycles)
-        (Rose (S.misses shelf.old) (S.misses shelf.new)) (Rose (S.faults shelf.old) (S.faults shelf.new)) }
+    ensures gives { Replies S.held S.misses S.faults shelf.old shelf.new result (CertifyAnswerTo (setting_value (F.degree field.now) (F.product field.now) setting.now) words.now) }
 {
     match read_circuit(alloc, shelf, setting, words.net, words.cycles) {
         Ok(circuit) => reply(alloc, field, setting, &circuit, words.terms),

@@ -1,11 +1,11 @@
 //! The command `upgrade`: a certificate in the newest version.
 ghost use Rattle.std.specs.Prelude.{◌≡◌, ◌≤◌, length};
-ghost use Rattle.job_io.specs.Counts.{Rose};
 ghost use Rattle.job_words.specs.Stop.{GivesBy};
 ghost use Rattle.job_input.specs.Setting.{setting_value, IsReady, IsTakenFor};
 ghost use Rattle.answer_core.specs.Reply.{reply_of};
-ghost use Rattle.answer_certificates.specs.Upgrade.{UpgradeReply, UpgradeAnswer};
+ghost use Rattle.answer_certificates.specs.Upgrade.{UpgradeReply, UpgradeAnswerTo};
 ghost use Rattle.answer_certificates.specs.private.CertificateStop.{certified_of};
+ghost use Rattle.answer_core.specs.Replies.{Replies};
 
 use crate::certificates::{Certified, certificate_labels, read_certified, text_stop};
 use answer_core::Output;
@@ -27,8 +27,7 @@ pub fn answer<F: Field, S: Shelf>(
     requires { IsReady (F.degree field.now) (F.product field.now) setting.now }
     ensures held { S.held shelf.new ≡ S.held shelf.old }
     ensures never_fall { (S.faults shelf.old ≤ S.faults shelf.new) × (S.misses shelf.old ≤ S.misses shelf.new) }
-    ensures gives { GivesBy reply_of result (UpgradeAnswer (S.held shelf.old) (setting_value (F.degree field.now) (F.product field.now) setting.now) words.now.net.now words.now.other.now words.now.cycles)
-        (Rose (S.misses shelf.old) (S.misses shelf.new)) (Rose (S.faults shelf.old) (S.faults shelf.new)) }
+    ensures gives { Replies S.held S.misses S.faults shelf.old shelf.new result (UpgradeAnswerTo (setting_value (F.degree field.now) (F.product field.now) setting.now) words.now) }
 {
     match read_certified(alloc, shelf, setting, words.net, words.other, words.cycles) {
         Ok(certified) => reply(alloc, field, setting, &certified),

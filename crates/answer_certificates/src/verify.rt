@@ -1,14 +1,14 @@
 //! The command `verify`: whether a certificate proves its claim.
 ghost use Rattle.std.specs.Prelude.{◌≡◌, ◌≤◌, ◌++◌, length, codes, decimal, IfOk};
-ghost use Rattle.job_io.specs.Counts.{Rose};
 ghost use Rattle.poly_mixed.specs.Text.{HasNames, HasWordNames};
 ghost use Rattle.cert_check.specs.Verdict.{verdict_of};
 ghost use Rattle.job_words.specs.Stop.{GivesBy};
 ghost use Rattle.job_input.specs.Labelling.{labels_of};
 ghost use Rattle.job_input.specs.Setting.{setting_value, IsReady, IsTakenFor};
 ghost use Rattle.answer_core.specs.Reply.{line_with, reply_of};
-ghost use Rattle.answer_certificates.specs.Verify.{VerdictOf, VerifyReply, VerifyAnswer, verify_reply};
+ghost use Rattle.answer_certificates.specs.Verify.{VerdictOf, VerifyReply, VerifyAnswerTo, verify_reply};
 ghost use Rattle.answer_certificates.specs.private.CertificateStop.{certified_of, IsNamedVerdict};
+ghost use Rattle.answer_core.specs.Replies.{Replies};
 
 use crate::certificates::{Certified, certificate_labels, read_certified, sum_stop};
 use answer_core::{Output, labels, polynomial_line};
@@ -32,8 +32,7 @@ pub fn answer<F: Field, S: Shelf>(
     requires { IsReady (F.degree field.now) (F.product field.now) setting.now }
     ensures held { S.held shelf.new ≡ S.held shelf.old }
     ensures never_fall { (S.faults shelf.old ≤ S.faults shelf.new) × (S.misses shelf.old ≤ S.misses shelf.new) }
-    ensures gives { GivesBy reply_of result (VerifyAnswer (S.held shelf.old) (setting_value (F.degree field.now) (F.product field.now) setting.now) words.now.net.now words.now.other.now words.now.terms words.now.cycles)
-        (Rose (S.misses shelf.old) (S.misses shelf.new)) (Rose (S.faults shelf.old) (S.faults shelf.new)) }
+    ensures gives { Replies S.held S.misses S.faults shelf.old shelf.new result (VerifyAnswerTo (setting_value (F.degree field.now) (F.product field.now) setting.now) words.now) }
 {
     match read_certified(alloc, shelf, setting, words.net, words.other, words.cycles) {
         Ok(certified) => reply(alloc, field, setting, &certified, words.terms),

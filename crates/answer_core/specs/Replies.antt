@@ -5,24 +5,16 @@ use Rattle.poly_mixed.specs.Labels.{Labelling}
 use Rattle.circuit_model.specs.Differing.{Difference}
 use Rattle.spec_compare.specs.Verdict.{comparison_of}
 use Rattle.spec_compare.specs.declared.verdict.Verdict.{Verdict}
-use Rattle.job_io.specs.Counts.{Rose}
 use Rattle.job_io.specs.Shelf.{Files}
 use Rattle.job_words.specs.Stop.{GivesBy}
 use Rattle.job_words.specs.declared.fault.Fault.{Fault}
 use Rattle.job_words.specs.declared.stop.Stop.{Stop}
+use Rattle.job_input.specs.Reads.{Rises}
 use Rattle.answer_core.specs.declared.output.Output.{Output}
 use Rattle.answer_core.specs.Reply.{Reply, reply_of}
 
--- a count of a shelf or a sink rose from one of its states to another
-abbrev pub Rises : {S : Type 0} → (count : S → ℕ) (old new : S) → Type 0
-Rises count old new = Rose (count old) (count new)
-
--- The value, as `view` shows it, or the fault is one that may come of what the shelf holds. Where a file was missed, the shelf's misses
--- rose, and where the outside failed, its faults.
-abbrev pub GivesOver : {S X A : Type 0} → (held : S → Option Files) (misses faults : S → ℕ) (old new : S) → (X → A) → Result X Stop → (Option Files → Outcome Fault A) → Type 0
-GivesOver held misses faults old new view result answer = GivesBy view result (answer (held old)) (Rises misses old new) (Rises faults old new)
-
--- so it is with the reply of an output
+-- The reply of an output or the fault is one that may come of what the shelf holds. Where a file was missed, the shelf's misses rose, and
+-- where the outside failed, its faults.
 abbrev pub Replies : {S : Type 0} → (held : S → Option Files) (misses faults : S → ℕ) (old new : S) → Result Output Stop → (Option Files → Outcome Fault Reply) → Type 0
 Replies held misses faults old new result answer = GivesBy reply_of result (answer (held old)) (Rises misses old new) (Rises faults old new)
 

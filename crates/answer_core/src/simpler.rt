@@ -1,9 +1,9 @@
 //! The circuit of all cycles, made simpler where it is asked for.
 ghost use Rattle.std.specs.Prelude.{◌≡◌, ◌≤◌, ℕ, IfOk};
 ghost use Rattle.job_words.specs.Stop.{GivesBy};
+ghost use Rattle.job_input.specs.Reads.{ReadsOver};
 ghost use Rattle.job_input.specs.Setting.{IsReady, IsTakenFor};
 ghost use Rattle.job_input.specs.declared.setting.Setting.{Setting as SettingOfJob};
-ghost use Rattle.answer_core.specs.Replies.{GivesOver};
 ghost use Rattle.answer_core.specs.Simpler.{IsSimpler, SimplerIn, SimplerUnrolledIn};
 
 use job_input::{BoundNetlist, Setting, read_circuit, unroll_netlist};
@@ -26,7 +26,7 @@ pub fn read_simpler<S: Shelf>(
     requires cycles { cycles ≤ 4096 }
     ensures held { S.held shelf.new ≡ S.held shelf.old }
     ensures never_fall { (S.faults shelf.old ≤ S.faults shelf.new) × (S.misses shelf.old ≤ S.misses shelf.new) }
-    ensures gives { GivesOver S.held S.misses S.faults shelf.old shelf.new (λ circuit. circuit) result (λ held. SimplerIn held setting.now.signature file.now cycles simple) }
+    ensures gives { ReadsOver S.held S.misses S.faults shelf.old shelf.new result (λ held. SimplerIn held setting.now.signature file.now cycles simple) }
     ensures taken { IfOk result (λ circuit. (k : ℕ) (product : ℕ → ℕ → ℕ) → IsReady k product setting.now → IsTakenFor k setting.now circuit) }
 {
     match read_circuit(alloc, shelf, setting, file, cycles) {

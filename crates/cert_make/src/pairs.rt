@@ -1,16 +1,13 @@
 //! The lines of pairs, with a `let` line before the first pair of each shared multiplier.
 ghost use Rattle.std.specs.Prelude.{◌≡◌, ◌+◌, ◌<◌, ◌≤◌, ◌^◌, ◌++◌, ℕ, [], List, IfOk, OnOk};
 ghost use Rattle.std.specs.List.{AllByRecursion};
-ghost use Rattle.lists.specs.Lists.{Has};
 ghost use Rattle.poly_mixed.specs.Labels.{Labelling};
-ghost use Rattle.poly_mixed.specs.Polynomial.{Terms};
 ghost use Rattle.poly_mixed.specs.Steps.{Step};
 ghost use Rattle.poly_mixed.specs.Text.{text};
-ghost use Rattle.cert_make.specs.CertText.{text_of_lines, lines_at, lines_from};
-ghost use Rattle.cert_make.specs.Sharing.{shares_with};
+ghost use Rattle.cert_make.specs.CertText.{text_of_lines, lines_from};
 ghost use Rattle.cert_make.specs.Writable.{IsWritablePair};
 ghost use Rattle.cert_make.specs.private.Kept.{pair_of, pairs_of};
-ghost use Rattle.cert_make.specs.private.TextSharing.{texts, AreMarks, IsSharingOf};
+ghost use Rattle.cert_make.specs.private.TextSharing.{texts, AddsLinesOf, AreMarks, SharesWith};
 
 use crate::certificate::Entry;
 use crate::copy::texts_of;
@@ -44,8 +41,8 @@ fn add_entry(
     requires room { sharing.old.count + 1 < 2 ^ 64 }
     requires writable { (k : ℕ) × IsWritablePair labels.now k (pair_of entry.now) }
     requires told { told.now ≡ text labels.now (pair_of entry.now).1 }
-    ensures lines { (k : ℕ) (pairs : List Step) (shares : List Terms) → IsSharingOf labels.now k pairs shares sharing.old → Has pairs (pair_of entry.now) → OnOk result (out.new.items ≡ out.old.items ++ text_of_lines (lines_at labels.now pairs shares (pair_of entry.now))) }
-    ensures sharing { (k : ℕ) (pairs : List Step) (shares : List Terms) → IsSharingOf labels.now k pairs shares sharing.old → Has pairs (pair_of entry.now) → OnOk result (IsSharingOf labels.now k pairs (shares_with pairs shares (pair_of entry.now).1) sharing.new) }
+    ensures lines { AddsLinesOf labels.now (pair_of entry.now) sharing.old result out.old.items out.new.items }
+    ensures sharing { SharesWith labels.now (pair_of entry.now) sharing.old result sharing.new }
     ensures room { OnOk result (sharing.new.count ≤ sharing.old.count + 1) }
 {
     let multiplier = sharing.multiplier(alloc, out, told)?;

@@ -40,6 +40,10 @@ labels_of k words = record { output = output_name words; words = word_labels k w
 abbrev pub circuit_labels : ℕ → List WordText → BoundNet → Labelling
 circuit_labels k words circuit = record { output = output_name words; words = word_labels k words; nets = others (nets circuit.net) (bits circuit.binding.words) }
 
+-- the labels of the same words, and of these nets
+abbrev pub with_nets : Labelling → List ℕ → Labelling
+with_nets labels list = record { output = labels.output; words = labels.words; nets = list }
+
 -- a word that adds a label has a new name, and there are fewer than 8 before it
 abbrev pub IsNewLabel : Role → List ℕ → List (List ℕ × ℕ) → Type 0
 IsNewLabel Input name before = Differs name (map (λ w. w.0) before) × (length before < 8)

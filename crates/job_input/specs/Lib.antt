@@ -1,4 +1,5 @@
 pub mod File
+pub mod Reads
 pub mod FieldOf
 pub mod SettingValue
 pub mod SettingOf

@@ -102,6 +102,10 @@ pub record SignedValue : Type 0 where
   pub signature : SignatureValue
   pub field : FieldValue
 
+-- a signature over the field of 2 to the k elements with this product
+abbrev pub signed_over : ℕ → (ℕ → ℕ → ℕ) → SignatureValue → SignedValue
+signed_over k product signature = record { signature = signature; field = record { k = k; product = product } }
+
 -- the signature of a text: first its lines, then its field
 unfoldable pub SignedOf : List ℕ → Outcome SignatureFault SignedValue
 SignedOf bytes = do

@@ -1,5 +1,5 @@
 -- What comes of the file of a signature, and of that of a second one. Source: this project's own.
-use Rattle.std.specs.Prelude.{Option}
+use Rattle.std.specs.Prelude.{ℕ, Option}
 use Rattle.outcome.specs.Outcome.{Outcome, ◌>>=◌, Exactly, Within}
 use Rattle.job_io.specs.Shelf.{Files}
 use Rattle.job_words.specs.declared.fault.Fault.{Fault}
@@ -7,13 +7,18 @@ use Rattle.job_words.specs.declared.fault.Fault.TheVariants.{File, Signature, Se
 use Rattle.job_words.specs.Operands.{Word}
 use Rattle.net_signature.specs.Signature.{SignatureValue}
 use Rattle.job_input.specs.File.{Read}
-use Rattle.job_input.specs.SettingOf.{SettingWith, SignedOf, SignedValue}
+use Rattle.job_input.specs.SettingOf.{SettingWith, SignedOf, SignedValue, signed_over}
+use Rattle.job_input.specs.SettingValue.{SettingValue}
 
 -- the signature of a file with its field: the file is read, and its text taken
 abbrev pub SignedIn : Option Files → Word → Outcome Fault SignedValue
 SignedIn held file = do
   text ← Within File (Read held file)
   Within Signature (SignedOf text)
+
+-- the setting of a signature over the field of 2 to the k elements with this product
+abbrev pub SettingOver : ℕ → (ℕ → ℕ → ℕ) → SignatureValue → Outcome Fault SettingValue
+SettingOver k product signature = Within Signature (SettingWith (signed_over k product signature))
 
 -- the second of two signatures with its field
 abbrev pub SecondSignedIn : Option Files → Word → Outcome Fault SignedValue

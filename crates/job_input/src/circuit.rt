@@ -1,7 +1,6 @@
 //! The circuit of a netlist's file.
 ghost use Rattle.std.specs.Prelude.{◌≡◌, ◌≤◌, ℕ, length, IfOk};
 ghost use Rattle.outcome.specs.Outcome.{Within};
-ghost use Rattle.job_io.specs.Counts.{Rose};
 ghost use Rattle.net_words.specs.Bind.{bits_of};
 ghost use Rattle.net_words.specs.Binding.{AreWords};
 ghost use Rattle.net_words.specs.Feeds.{AreFeeds};
@@ -9,6 +8,7 @@ ghost use Rattle.job_words.specs.Stop.{GivesBy};
 ghost use Rattle.job_words.specs.declared.fault.Fault.TheVariants.{Netlist};
 ghost use Rattle.job_input.specs.CircuitOf.{CircuitIn, UnrolledIn};
 ghost use Rattle.job_input.specs.NetlistOf.{BoundNetOf, NetlistIn, by_ending};
+ghost use Rattle.job_input.specs.Reads.{ReadsOver};
 ghost use Rattle.job_input.specs.Setting.{IsReady, IsTakenFor, roles_of};
 ghost use Rattle.job_input.specs.declared.setting.Setting.{Setting as SettingOfJob};
 
@@ -35,8 +35,7 @@ pub fn read_netlist<S: Shelf>(
     requires { (k : ℕ) × (product : ℕ → ℕ → ℕ) × IsReady k product setting.now }
     ensures held { S.held shelf.new ≡ S.held shelf.old }
     ensures never_fall { (S.faults shelf.old ≤ S.faults shelf.new) × (S.misses shelf.old ≤ S.misses shelf.new) }
-    ensures gives { GivesBy (λ netlist. netlist) result (NetlistIn (S.held shelf.old) setting.now.signature file.now)
-        (Rose (S.misses shelf.old) (S.misses shelf.new)) (Rose (S.faults shelf.old) (S.faults shelf.new)) }
+    ensures gives { ReadsOver S.held S.misses S.faults shelf.old shelf.new result (λ held. NetlistIn held setting.now.signature file.now) }
     ensures taken { IfOk result (λ netlist. (k : ℕ) (product : ℕ → ℕ → ℕ) → IsReady k product setting.now → IsTakenFor k setting.now netlist) }
 {
     let text = match read_file(alloc, shelf, file) {
@@ -99,8 +98,7 @@ pub fn read_circuit<S: Shelf>(
     requires cycles { cycles ≤ 4096 }
     ensures held { S.held shelf.new ≡ S.held shelf.old }
     ensures never_fall { (S.faults shelf.old ≤ S.faults shelf.new) × (S.misses shelf.old ≤ S.misses shelf.new) }
-    ensures gives { GivesBy (λ circuit. circuit) result (CircuitIn (S.held shelf.old) setting.now.signature file.now cycles)
-        (Rose (S.misses shelf.old) (S.misses shelf.new)) (Rose (S.faults shelf.old) (S.faults shelf.new)) }
+    ensures gives { ReadsOver S.held S.misses S.faults shelf.old shelf.new result (λ held. CircuitIn held setting.now.signature file.now cycles) }
     ensures taken { IfOk result (λ circuit. (k : ℕ) (product : ℕ → ℕ → ℕ) → IsReady k product setting.now → IsTakenFor k setting.now circuit) }
 {
     match read_netlist(alloc, shelf, setting, file) {

@@ -7,7 +7,7 @@ ghost use Rattle.net_words.specs.OneCycle.{IsOneCycle};
 ghost use Rattle.net_words.specs.Variables.{bits as bits_of, others};
 ghost use Rattle.net_signature.specs.WordNames.{HaveNames};
 ghost use Rattle.poly_mixed.specs.Labels.{Differs};
-ghost use Rattle.job_input.specs.Labelling.{circuit_labels};
+ghost use Rattle.job_input.specs.Labelling.{circuit_labels, with_nets};
 ghost use Rattle.job_input.specs.Setting.{HaveRoles};
 
 use crate::labels::labels_for;
@@ -49,7 +49,7 @@ fn add_nets(
     requires none { labels.old.nets ≡ [] }
     requires count { count ≡ nets_of circuit.now.net }
     requires first { first ≡ length (bits_of circuit.now.binding.words) }
-    ensures { OnOk result (labels.new ≡ record { output = labels.old.output; words = labels.old.words; nets = others (nets_of circuit.now.net) (bits_of circuit.now.binding.words) }) }
+    ensures { OnOk result (labels.new ≡ with_nets labels.old (others (nets_of circuit.now.net) (bits_of circuit.now.binding.words))) }
 {
     for net in 0..count {
         let is_bit = u64::from(circuit.rank_of(net)) < first;
@@ -61,7 +61,7 @@ fn add_nets(
 // Adds a net that is no bit of a word.
 fn add_net(labels: &mut Labels, net: u32, is_bit: bool) -> Result<(), AllocError>
     requires { Differs net labels.old.nets }
-    ensures { OnOk result (labels.new ≡ record { output = labels.old.output; words = labels.old.words; nets = labels.old.nets ++ cond is_bit [] (net ∷ []) }) }
+    ensures { OnOk result (labels.new ≡ with_nets labels.old (labels.old.nets ++ cond is_bit [] (net ∷ []))) }
 {
     if is_bit { Ok(()) } else { labels.net(net) }
 }

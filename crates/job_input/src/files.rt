@@ -1,10 +1,10 @@
 //! The bytes of a file.
 ghost use Rattle.std.specs.Prelude.{◌≡◌, ◌≤◌, length, IfOk};
 ghost use Rattle.outcome.specs.Outcome.{Within};
-ghost use Rattle.job_io.specs.Counts.{Rose};
-ghost use Rattle.job_words.specs.Stop.{bytes_of, GivesBy};
+ghost use Rattle.job_words.specs.Stop.{bytes_of};
 ghost use Rattle.job_words.specs.declared.fault.Fault.TheVariants.{File};
 ghost use Rattle.job_input.specs.File.{Read};
+ghost use Rattle.job_input.specs.Reads.{GivesOver};
 
 use job_io::{Shelf, ShelfFault};
 use job_words::{Fault, FileFault, Stop};
@@ -17,8 +17,7 @@ const LIMIT: u32 = 67_108_864;
 pub fn read_file<S: Shelf>(alloc: Global, shelf: &mut S, name: &str) -> Result<Vec<u8>, Stop>
     ensures held { S.held shelf.new ≡ S.held shelf.old }
     ensures never_fall { (S.faults shelf.old ≤ S.faults shelf.new) × (S.misses shelf.old ≤ S.misses shelf.new) }
-    ensures gives { GivesBy bytes_of result (Within File (Read (S.held shelf.old) name.now))
-        (Rose (S.misses shelf.old) (S.misses shelf.new)) (Rose (S.faults shelf.old) (S.faults shelf.new)) }
+    ensures gives { GivesOver S.held S.misses S.faults shelf.old shelf.new bytes_of result (λ held. Within File (Read held name.now)) }
     ensures short { IfOk result (λ bytes. length bytes.items ≤ 67108864) }
 {
     match shelf.read(alloc, name, LIMIT) {

@@ -1,12 +1,12 @@
 //! A hierarchical netlist: its models, to whose first one the words of a signature bind.
 ghost use Rattle.std.specs.Prelude.{◌≡◌, ◌≤◌, ℕ, length, IfOk, Ok};
 ghost use Rattle.outcome.specs.Outcome.{Within};
-ghost use Rattle.job_io.specs.Counts.{Rose};
 ghost use Rattle.net_words.specs.Binding.{AreWords};
 ghost use Rattle.net_words.specs.Feeds.{AreFeeds};
 ghost use Rattle.job_words.specs.Stop.{GivesBy};
 ghost use Rattle.job_words.specs.declared.fault.Fault.TheVariants.{Netlist};
 ghost use Rattle.job_input.specs.HierarchyIn.{HierarchyIn, HierarchyOf, TopBinds};
+ghost use Rattle.job_input.specs.Reads.{ReadsOver};
 ghost use Rattle.job_input.specs.Setting.{IsReady, roles_of};
 ghost use Rattle.job_input.specs.private.NetlistReading.{FitsNetlist};
 
@@ -32,8 +32,7 @@ pub fn read_hierarchy<S: Shelf>(
     requires { (k : ℕ) × (product : ℕ → ℕ → ℕ) × IsReady k product setting.now }
     ensures held { S.held shelf.new ≡ S.held shelf.old }
     ensures never_fall { (S.faults shelf.old ≤ S.faults shelf.new) × (S.misses shelf.old ≤ S.misses shelf.new) }
-    ensures gives { GivesBy (λ design. design) result (HierarchyIn (S.held shelf.old) setting.now.signature file.now)
-        (Rose (S.misses shelf.old) (S.misses shelf.new)) (Rose (S.faults shelf.old) (S.faults shelf.new)) }
+    ensures gives { ReadsOver S.held S.misses S.faults shelf.old shelf.new result (λ held. HierarchyIn held setting.now.signature file.now) }
     ensures top { IfOk result (λ design. TopBinds setting.now.signature design (Ok tt)) }
 {
     let text = match read_file(alloc, shelf, file) {

@@ -1,14 +1,13 @@
 //! Laws of settings, circuits and specifications. These functions do nothing: their contracts are proved of the definitions alone.
-ghost use Rattle.std.specs.Prelude.{List, ℕ, Option, Ok, Err};
+ghost use Rattle.std.specs.Prelude.{List, ℕ, Option, Ok};
 ghost use Rattle.outcome.specs.Outcome.{Determined, Within};
 ghost use Rattle.job_io.specs.Shelf.{Files};
 ghost use Rattle.net_words.specs.Binding.{BoundNet};
 ghost use Rattle.net_signature.specs.Signature.{SignatureValue};
 ghost use Rattle.net_signature.specs.WordNames.{HaveNames};
 ghost use Rattle.poly_mixed.specs.Labels.{Labelling};
-ghost use Rattle.job_words.specs.OneLine.{HasNoLineFeed, KeepsToItsLine};
+ghost use Rattle.job_words.specs.OneLine.{FaultsKeepToTheirLine};
 ghost use Rattle.job_words.specs.Operands.{Word};
-ghost use Rattle.job_words.specs.declared.fault.Fault.{Fault};
 ghost use Rattle.job_words.specs.declared.fault.Fault.TheVariants.{File};
 ghost use Rattle.job_input.specs.CircuitOf.{CircuitOf, UnrolledIn};
 ghost use Rattle.job_input.specs.File.{Read};
@@ -54,11 +53,11 @@ pub fn one_table_file_or_fault()
 /// fault, that of a second signature, a netlist's under words that have names, that of unrolling it, a specification's, a
 /// table's, and that of a file alone.
 pub fn faults_keep_to_their_line()
-    ensures signature { (held : Option Files) (name : Word) (fault : Fault) → HasNoLineFeed name → SignedIn held name (Err fault) → KeepsToItsLine fault }
-    ensures second { (held : Option Files) (name : Word) (fault : Fault) → HasNoLineFeed name → SecondIn held name (Err fault) → KeepsToItsLine fault }
-    ensures netlist { (held : Option Files) (signature : SignatureValue) (name : Word) (fault : Fault) → HaveNames signature.words → HasNoLineFeed name → NetlistIn held signature name (Err fault) → KeepsToItsLine fault }
-    ensures unrolled { (name : Word) (netlist : BoundNet) (cycles : ℕ) (fault : Fault) → HasNoLineFeed name → UnrolledIn name netlist cycles (Err fault) → KeepsToItsLine fault }
-    ensures specification { (held : Option Files) (labels : Labelling) (k : ℕ) (product : ℕ → ℕ → ℕ) (name : Word) (fault : Fault) → HasNoLineFeed name → SpecificationIn held labels k product name (Err fault) → KeepsToItsLine fault }
-    ensures table { (held : Option Files) (k n : ℕ) (name : Word) (fault : Fault) → HasNoLineFeed name → TableIn held k n name (Err fault) → KeepsToItsLine fault }
-    ensures file { (held : Option Files) (name : Word) (fault : Fault) → HasNoLineFeed name → Within File (Read held name) (Err fault) → KeepsToItsLine fault }
+    ensures signature { (held : Option Files) (name : Word) → FaultsKeepToTheirLine name (SignedIn held name) }
+    ensures second { (held : Option Files) (name : Word) → FaultsKeepToTheirLine name (SecondIn held name) }
+    ensures netlist { (held : Option Files) (signature : SignatureValue) (name : Word) → HaveNames signature.words → FaultsKeepToTheirLine name (NetlistIn held signature name) }
+    ensures unrolled { (name : Word) (netlist : BoundNet) (cycles : ℕ) → FaultsKeepToTheirLine name (UnrolledIn name netlist cycles) }
+    ensures specification { (held : Option Files) (labels : Labelling) (k : ℕ) (product : ℕ → ℕ → ℕ) (name : Word) → FaultsKeepToTheirLine name (SpecificationIn held labels k product name) }
+    ensures table { (held : Option Files) (k n : ℕ) (name : Word) → FaultsKeepToTheirLine name (TableIn held k n name) }
+    ensures file { (held : Option Files) (name : Word) → FaultsKeepToTheirLine name (Within File (Read held name)) }
 {}

@@ -1,7 +1,8 @@
 //! The second of two signatures.
 ghost use Rattle.std.specs.Prelude.{◌≡◌, ◌≤◌};
-ghost use Rattle.job_io.specs.Counts.{Rose};
 ghost use Rattle.job_words.specs.Stop.{GivesBy};
+ghost use Rattle.job_input.specs.Reads.{ReadsOver};
+ghost use Rattle.job_input.specs.SettingOf.{signed_over};
 ghost use Rattle.job_input.specs.SignedIn.{SecondIn, SecondOf};
 ghost use Rattle.job_input.specs.Setting.{signed_value, second_stop as stop_of_second, AreSaid};
 
@@ -18,8 +19,7 @@ use std::alloc::Global;
 pub fn read_second<S: Shelf>(alloc: Global, shelf: &mut S, file: &str) -> Result<Signature, Stop>
     ensures held { S.held shelf.new ≡ S.held shelf.old }
     ensures never_fall { (S.faults shelf.old ≤ S.faults shelf.new) × (S.misses shelf.old ≤ S.misses shelf.new) }
-    ensures gives { GivesBy (λ signature. signature) result (SecondIn (S.held shelf.old) file.now)
-        (Rose (S.misses shelf.old) (S.misses shelf.new)) (Rose (S.faults shelf.old) (S.faults shelf.new)) }
+    ensures gives { ReadsOver S.held S.misses S.faults shelf.old shelf.new result (λ held. SecondIn held file.now) }
 {
     match read_signed(alloc, shelf, file) {
         Ok(signed) => judged(alloc, signed),
@@ -43,7 +43,7 @@ fn judged(alloc: Global, signed: Signed) -> Result<Signature, Stop>
 // A second signature over its field, where its words have bases.
 fn judged_over<F: Field>(alloc: Global, field: &F, signature: Signature) -> Result<Signature, Stop>
     requires { AreSaid signature }
-    ensures { GivesBy (λ signature. signature) result (SecondOf (record { signature = signature; field = record { k = F.degree field.now; product = F.product field.now } })) ⊥ ⊥ }
+    ensures { GivesBy (λ signature. signature) result (SecondOf (signed_over (F.degree field.now) (F.product field.now) signature)) ⊥ ⊥ }
 {
     match setting_over(alloc, field, signature) {
         Ok(setting) => Ok(setting.signature),

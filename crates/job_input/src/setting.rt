@@ -4,7 +4,8 @@ ghost use Rattle.outcome.specs.Outcome.{Returns, Within};
 ghost use Rattle.gf_basis.specs.BasisParts.{IsBasisOver, elements_of};
 ghost use Rattle.job_words.specs.Stop.{GivesBy};
 ghost use Rattle.job_words.specs.declared.fault.Fault.TheVariants.{Signature};
-ghost use Rattle.job_input.specs.SettingOf.{BasisOf, WordBasis, BasesOf, BlocksHaveBases, feeds_within, place_within, SettingWith, basis_fault as fault_of_basis};
+ghost use Rattle.job_input.specs.SettingOf.{BasisOf, WordBasis, BasesOf, BlocksHaveBases, feeds_within, place_within, basis_fault as fault_of_basis};
+ghost use Rattle.job_input.specs.SignedIn.{SettingOver};
 ghost use Rattle.job_input.specs.Setting.{elements_of_each, setting_value, AreBasesOver, AreSaid, IsReady};
 
 use crate::signed::refused;
@@ -33,8 +34,7 @@ pub fn setting_over<F: Field>(
     signature: net_signature::Signature,
 ) -> Result<Setting, Stop>
     requires said { AreSaid signature }
-    ensures gives { GivesBy (setting_value (F.degree field.now) (F.product field.now)) result
-        (Within Signature (SettingWith (record { signature = signature; field = record { k = F.degree field.now; product = F.product field.now } }))) ⊥ ⊥ }
+    ensures gives { GivesBy (setting_value (F.degree field.now) (F.product field.now)) result (SettingOver (F.degree field.now) (F.product field.now) signature) ⊥ ⊥ }
     ensures ready { IfOk result (λ setting. IsReady (F.degree field.now) (F.product field.now) setting) }
 {
     let bases = match bases_of(alloc, field, signature.words()) {

@@ -1,11 +1,11 @@
 //! A signature, and the field that it names.
 ghost use Rattle.std.specs.Prelude.{◌≡◌, ◌≤◌, length, IfOk};
 ghost use Rattle.outcome.specs.Outcome.{Within};
-ghost use Rattle.job_io.specs.Counts.{Rose};
 ghost use Rattle.job_words.specs.Stop.{GivesBy};
 ghost use Rattle.job_words.specs.declared.fault.Fault.TheVariants.{Signature};
 ghost use Rattle.job_words.specs.declared.stop.Stop.TheVariants.{Refused};
 ghost use Rattle.job_input.specs.FieldOf.{field_fault as fault_of_field};
+ghost use Rattle.job_input.specs.Reads.{GivesOver};
 ghost use Rattle.job_input.specs.SettingOf.{SignedOf};
 ghost use Rattle.job_input.specs.SignedIn.{SignedIn};
 ghost use Rattle.job_input.specs.Setting.{signed_value, text_stop as stop_of_text, AreSaid};
@@ -30,8 +30,7 @@ pub struct Signed {
 pub fn read_signed<S: Shelf>(alloc: Global, shelf: &mut S, file: &str) -> Result<Signed, Stop>
     ensures held { S.held shelf.new ≡ S.held shelf.old }
     ensures never_fall { (S.faults shelf.old ≤ S.faults shelf.new) × (S.misses shelf.old ≤ S.misses shelf.new) }
-    ensures gives { GivesBy signed_value result (SignedIn (S.held shelf.old) file.now)
-        (Rose (S.misses shelf.old) (S.misses shelf.new)) (Rose (S.faults shelf.old) (S.faults shelf.new)) }
+    ensures gives { GivesOver S.held S.misses S.faults shelf.old shelf.new signed_value result (λ held. SignedIn held file.now) }
     ensures said { IfOk result (λ signed. AreSaid signed.signature) }
 {
     let text = match read_file(alloc, shelf, file) {

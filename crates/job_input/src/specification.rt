@@ -1,10 +1,10 @@
 //! The specification of a file.
 ghost use Rattle.std.specs.Prelude.{◌≡◌, ◌≤◌, length, IfOk};
 ghost use Rattle.outcome.specs.Outcome.{Within};
-ghost use Rattle.job_io.specs.Counts.{Rose};
 ghost use Rattle.spec_expand.specs.Specification.{IsOverWords};
 ghost use Rattle.job_words.specs.Stop.{GivesBy};
 ghost use Rattle.job_words.specs.declared.fault.Fault.TheVariants.{Specification};
+ghost use Rattle.job_input.specs.Reads.{ReadsOver};
 ghost use Rattle.job_input.specs.SpecificationIn.{SpecificationOf, SpecificationIn};
 
 use crate::files::read_file;
@@ -27,8 +27,7 @@ pub fn read_specification<F: Field, S: Shelf>(
 ) -> Result<Spec, Stop>
     ensures held { S.held shelf.new ≡ S.held shelf.old }
     ensures never_fall { (S.faults shelf.old ≤ S.faults shelf.new) × (S.misses shelf.old ≤ S.misses shelf.new) }
-    ensures gives { GivesBy (λ spec. spec) result (SpecificationIn (S.held shelf.old) labels.now (F.degree field.now) (F.product field.now) file.now)
-        (Rose (S.misses shelf.old) (S.misses shelf.new)) (Rose (S.faults shelf.old) (S.faults shelf.new)) }
+    ensures gives { ReadsOver S.held S.misses S.faults shelf.old shelf.new result (λ held. SpecificationIn held labels.now (F.degree field.now) (F.product field.now) file.now) }
     ensures over { IfOk result (IsOverWords (F.degree field.now) (length labels.now.words)) }
 {
     let text = match read_file(alloc, shelf, file) {

@@ -1,10 +1,10 @@
 //! The table of a file.
 ghost use Rattle.std.specs.Prelude.{◌≡◌, ◌≤◌, ◌*◌, ◌^◌};
 ghost use Rattle.outcome.specs.Outcome.{Within};
-ghost use Rattle.job_io.specs.Counts.{Rose};
 ghost use Rattle.lift_table.specs.Small.{IsSmall};
 ghost use Rattle.job_words.specs.Stop.{bytes_of, GivesBy};
 ghost use Rattle.job_words.specs.declared.fault.Fault.TheVariants.{Table};
+ghost use Rattle.job_input.specs.Reads.{GivesOver};
 ghost use Rattle.job_input.specs.TableIn.{TableOf, TableIn};
 
 use crate::files::read_file;
@@ -25,8 +25,7 @@ pub fn read_table_file<S: Shelf>(
     requires { IsSmall k words }
     ensures held { S.held shelf.new ≡ S.held shelf.old }
     ensures never_fall { (S.faults shelf.old ≤ S.faults shelf.new) × (S.misses shelf.old ≤ S.misses shelf.new) }
-    ensures gives { GivesBy bytes_of result (TableIn (S.held shelf.old) k (2 ^ (k * words)) file.now)
-        (Rose (S.misses shelf.old) (S.misses shelf.new)) (Rose (S.faults shelf.old) (S.faults shelf.new)) }
+    ensures gives { GivesOver S.held S.misses S.faults shelf.old shelf.new bytes_of result (λ held. TableIn held k (2 ^ (k * words)) file.now) }
 {
     let text = match read_file(alloc, shelf, file) {
         Ok(text) => text,

@@ -1,6 +1,7 @@
 -- Faults that keep to one line. Source: this project's own, docs/COMMANDS.md.
-use Rattle.std.specs.Prelude.{◌≡◌, ◌≢◌, ℕ, List, [], ◌∷◌, ◌++◌, All, codes}
+use Rattle.std.specs.Prelude.{◌≡◌, ◌≢◌, ℕ, List, [], ◌∷◌, ◌++◌, All, codes, Err}
 use Rattle.std.specs.List.{AllByRecursion}
+use Rattle.outcome.specs.Outcome.{Outcome}
 use Rattle.job_words.specs.Operands.{Word}
 use Rattle.job_words.specs.declared.fault.Fault.{Fault}
 use Rattle.job_words.specs.declared.fault.Fault.TheVariants as faults
@@ -77,3 +78,7 @@ repeated fault = []
 -- nothing that a fault repeats has a line feed
 abbrev pub KeepsToItsLine : Fault → Type 0
 KeepsToItsLine fault = AllByRecursion HasNoLineFeed (repeated fault)
+
+-- where the name of a file has no line feed, each fault that may come of it keeps to its line
+abbrev pub FaultsKeepToTheirLine : {A : Type 0} → Word → Outcome Fault A → Type 0
+FaultsKeepToTheirLine name outcome = HasNoLineFeed name → (fault : Fault) → outcome (Err fault) → KeepsToItsLine fault

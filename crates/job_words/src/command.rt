@@ -128,7 +128,7 @@ fn read_task<'a>(name: &str, rest: &'a [String]) -> Option<(&'a str, Task<'a>)>
     }
 }
 
-// The same of a command of certificates, or else of tables and isomorphisms.
+// The signature and the task of a command of certificates, or else of tables and isomorphisms, with these words behind its name.
 fn certificate_task<'a>(name: &str, rest: &'a [String]) -> Option<(&'a str, Task<'a>)>
     ensures found { IfSome result (λ r. IsSpelled (name.now ∷ map string_bytes rest.now) (Over r.0.now (action_of r.1))) }
     ensures none { IfNone result ((job : _) → IsLater job → IsSpelled (name.now ∷ map string_bytes rest.now) job → ⊥) }
@@ -150,7 +150,7 @@ fn certificate_task<'a>(name: &str, rest: &'a [String]) -> Option<(&'a str, Task
     }
 }
 
-// The same of a command of tables and isomorphisms.
+// The signature and the task of a command of tables and isomorphisms with these words behind its name.
 fn table_task<'a>(name: &str, rest: &'a [String]) -> Option<(&'a str, Task<'a>)>
     ensures found { IfSome result (λ r. IsSpelled (name.now ∷ map string_bytes rest.now) (Over r.0.now (action_of r.1))) }
     ensures none { IfNone result ((job : _) → IsOfTables job → IsSpelled (name.now ∷ map string_bytes rest.now) job → ⊥) }

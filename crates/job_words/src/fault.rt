@@ -113,7 +113,7 @@ fn line_of(alloc: Global, text: &str) -> Result<Vec<u8>, AllocError>
     Ok(line.into_bytes())
 }
 
-// The same with the file at its end.
+// The line of a number and a text, and of the file that they speak of.
 fn line_in(alloc: Global, text: &str, file: &str) -> Result<Vec<u8>, AllocError>
     ensures { IfOk result (λ line. line.items ≡ codes "fault " ++ (text.now ++ (codes " in " ++ (file.now ++ codes "\n")))) }
 {

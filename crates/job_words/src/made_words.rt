@@ -30,7 +30,7 @@ pub(crate) fn of_kind<'a>(words: &'a [String]) -> Option<(&'a str, Kind)>
     }
 }
 
-// The same of two words.
+// The signature and the kind, where the first word is a kind's name and the second names a file.
 fn kind_and_file<'a>(kind: &str, signature: &'a str) -> Option<(&'a str, Kind)>
     ensures found { IfSome result (λ r. IsOfKind (kind.now ∷ signature.now ∷ []) r.0.now r.1) }
     ensures none { IfNone result ((s k : _) → IsOfKind (kind.now ∷ signature.now ∷ []) s k → ⊥) }
@@ -74,7 +74,7 @@ pub(crate) fn of_numbers(words: &[String]) -> Option<TrialWords>
     }
 }
 
-// The same of two words and the options behind them.
+// The words of a trial, where two words are its number and its modulus, and those behind them the option of terms.
 fn of_two_numbers(number: &str, modulus: &str, options: &[String]) -> Option<TrialWords>
     ensures found { IfSome result (λ trial. AreTrialWords (number.now ∷ modulus.now ∷ map string_bytes options.now) trial.number trial.modulus trial.terms) }
     ensures none { IfNone result ((n m t : _) → AreTrialWords (number.now ∷ modulus.now ∷ map string_bytes options.now) n m t → ⊥) }

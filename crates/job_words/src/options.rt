@@ -48,7 +48,7 @@ pub(crate) fn read_options(options: &[String], limit: u32, default: u32) -> Opti
     }
 }
 
-// The same of one option with its number.
+// The bound on terms and the number of cycles, of which one option with its number sets one, and the other stands by default.
 fn of_option(name: &str, number: &str, limit: u32, default: u32) -> Option<(u32, u32)>
     ensures found { IfSome result (λ r. AreOptions limit default (name.now ∷ number.now ∷ []) r.0 r.1) }
     ensures none { IfNone result ((terms cycles : _) → AreOptions limit default (name.now ∷ number.now ∷ []) terms cycles → ⊥) }
@@ -67,7 +67,7 @@ fn of_option(name: &str, number: &str, limit: u32, default: u32) -> Option<(u32,
     }
 }
 
-// The same of two options with their numbers.
+// The bound on terms and the number of cycles, where two options with their numbers set both, in either order.
 fn of_two(
     name: &str,
     number: &str,
@@ -136,7 +136,7 @@ fn read_simplify(options: &[String]) -> Option<(u32, u32)>
     }
 }
 
-// The same of one word.
+// The two numbers that stand by default, where the only word is `--simplify`.
 fn of_simplify(word: &str) -> Option<(u32, u32)>
     ensures found { IfSome result (λ r. AreCircuitOptions (word.now ∷ []) r.0 r.1 true) }
     ensures none { IfNone result ((terms cycles : _) → AreCircuitOptions (word.now ∷ []) terms cycles true → ⊥) }
@@ -149,7 +149,7 @@ fn of_simplify(word: &str) -> Option<(u32, u32)>
     }
 }
 
-// The same of three words: those of one option with its number, and `--simplify` before or behind.
+// The two numbers, where three words are one option with its number, and `--simplify` before or behind.
 fn of_three(first: &str, second: &str, third: &str) -> Option<(u32, u32)>
     ensures found { IfSome result (λ r. AreCircuitOptions (first.now ∷ second.now ∷ third.now ∷ []) r.0 r.1 true) }
     ensures none { IfNone result ((terms cycles : _) → AreCircuitOptions (first.now ∷ second.now ∷ third.now ∷ []) terms cycles true → ⊥) }
@@ -164,7 +164,7 @@ fn of_three(first: &str, second: &str, third: &str) -> Option<(u32, u32)>
     }
 }
 
-// The same of five words: those of two options with their numbers, and `--simplify` before, between or behind.
+// The two numbers, where five words are two options with their numbers, and `--simplify` before, between or behind.
 fn of_five(first: &str, second: &str, third: &str, fourth: &str, fifth: &str) -> Option<(u32, u32)>
     ensures found { IfSome result (λ r. AreCircuitOptions (first.now ∷ second.now ∷ third.now ∷ fourth.now ∷ fifth.now ∷ []) r.0 r.1 true) }
     ensures none { IfNone result ((terms cycles : _) → AreCircuitOptions (first.now ∷ second.now ∷ third.now ∷ fourth.now ∷ fifth.now ∷ []) terms cycles true → ⊥) }
@@ -194,7 +194,7 @@ pub(crate) fn read_cycles(options: &[String]) -> Option<u32>
     }
 }
 
-// The same of one option with its number.
+// The number of cycles, where the one option is `--cycles` with its number.
 fn of_cycles(name: &str, number: &str) -> Option<u32>
     ensures found { IfSome result (λ cycles. IsCyclesOption (name.now ∷ number.now ∷ []) cycles) }
     ensures none { IfNone result ((cycles : _) → IsCyclesOption (name.now ∷ number.now ∷ []) cycles → ⊥) }
@@ -218,7 +218,7 @@ pub(crate) fn read_terms(options: &[String]) -> Option<u32>
     }
 }
 
-// The same of one option with its number.
+// The bound on terms, where the one option is `--terms` with its number.
 fn of_terms(name: &str, number: &str) -> Option<u32>
     ensures found { IfSome result (λ terms. IsTermsOption 262144 65536 (name.now ∷ number.now ∷ []) terms) }
     ensures none { IfNone result ((terms : _) → IsTermsOption 262144 65536 (name.now ∷ number.now ∷ []) terms → ⊥) }

@@ -98,7 +98,7 @@ pub(crate) fn over_blif<'a>(words: &'a [String]) -> Option<(&'a str, ComposeWord
     }
 }
 
-// The same with a netlist of any form.
+// A signature, and a netlist of any form with the option of terms.
 fn over_terms<'a>(words: &'a [String]) -> Option<(&'a str, ComposeWords<'a>)>
     ensures found { IfSome result (λ r. IsOverFile (λ rest. IsTermsOption 262144 65536 rest r.1.terms) (map string_bytes words.now) r.0.now r.1.net.now) }
     ensures none { IfNone result ((signature net terms : _) → IsOverFile (λ rest. IsTermsOption 262144 65536 rest terms) (map string_bytes words.now) signature net → ⊥) }
@@ -203,7 +203,7 @@ fn file_and_rest<'a>(words: &'a [String]) -> Option<(&'a str, &'a str, &'a [Stri
     }
 }
 
-// The same of two words and what follows them.
+// The signature, the file and what follows them, where both words name files.
 fn are_file<'a>(
     signature: &'a str,
     file: &'a str,
@@ -235,7 +235,7 @@ fn files_and_rest<'a>(words: &'a [String]) -> Option<(&'a str, &'a str, &'a str,
     }
 }
 
-// The same of three words and what follows them.
+// The signature, the two files and what follows them, where all three words name files.
 fn are_files<'a>(
     signature: &'a str,
     file: &'a str,

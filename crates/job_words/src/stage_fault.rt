@@ -25,7 +25,7 @@ pub(crate) fn stage_fault_text(alloc: Global, fault: &StageFault) -> Result<Stri
     bound_text(alloc, fault.stage.as_str(), fault.terms, fault.bound)
 }
 
-// The same, of the stage's name.
+// The number and the text of the fault of a stage that is called this, with its terms and the bound.
 fn bound_text(alloc: Global, stage: &str, terms: u64, bound: u32) -> Result<String, AllocError>
     ensures { IfOk result (λ text. string_bytes text ≡ codes "03: " ++ (stage.now ++ (codes " has " ++ (decimal terms ++ (codes " terms, bound " ++ decimal bound))))) }
 {
@@ -77,7 +77,7 @@ pub fn write_block_stage(
     block_text(alloc, model, stage.as_str())
 }
 
-// The same, of the stage's own name.
+// What a stage is called that is called this in the block of a model.
 fn block_text(alloc: Global, model: &str, stage: &str) -> Result<String, AllocError>
     ensures { IfOk result (λ text. string_bytes text ≡ codes "block " ++ (model.now ++ (codes " " ++ stage.now))) }
 {

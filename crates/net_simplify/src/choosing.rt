@@ -1,8 +1,7 @@
 //! Which inputs of a gate are opened.
 ghost use Rattle.std.specs.Prelude.{◌≡◌, ◌≢◌, ◌<◌, ◌≤◌, ◌+◌, ◌*◌, ◌^◌, ℕ, Bool, length, if◌then◌else◌, IfOk};
-ghost use Rattle.lists.specs.Lists.{Has};
 ghost use Rattle.net_simplify.specs.Choice.{Gives, IsChosen, price as price_of};
-ghost use Rattle.net_simplify.specs.private.Best.{AreSingles, IsBest};
+ghost use Rattle.net_simplify.specs.private.Best.{AreSingles, IsBetterOf};
 ghost use Rattle.net_simplify.specs.private.Lists.{forms_of};
 
 use crate::composing::composed;
@@ -59,7 +58,7 @@ fn better(
 ) -> Result<TableForm, AllocError>
     requires within { opened < 2 ^ length gate.now.inputs }
     requires some { opened ≢ 0 }
-    ensures { IfOk result (λ form. (single : ℕ → Bool) → AreSingles single marks.now → IsBest single (forms_of known.now) gate.now best opened → IsBest single (forms_of known.now) gate.now form (opened + 1)) }
+    ensures { IfOk result (λ form. IsBetterOf marks.now (forms_of known.now) gate.now opened best form) }
 {
     match composed(alloc, known, gate, opened, MOST)? {
         Some(form) => {

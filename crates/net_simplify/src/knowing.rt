@@ -1,13 +1,8 @@
 //! What the nets of a net list are.
-ghost use Rattle.std.specs.Prelude.{◌≡◌, ◌<◌, ◌+◌, ℕ, List, Some, length, slice_get, IfOk, OnOk};
-ghost use Rattle.net_core.specs.GateValue.{GateValue};
-ghost use Rattle.net_core.specs.NetList.{NetList};
+ghost use Rattle.std.specs.Prelude.{◌≡◌, ◌<◌, length, IfOk, OnOk};
 ghost use Rattle.net_core.specs.Order.{IsLevelOrder};
 ghost use Rattle.net_core.specs.Sound.{IsSound};
-ghost use Rattle.net_simplify.specs.Simplified.{AreForms};
-ghost use Rattle.net_simplify.specs.private.Lists.{forms_of};
-ghost use Rattle.net_simplify.specs.private.Marks.{gates_by};
-ghost use Rattle.net_simplify.specs.private.Underway.{AreMarks, ArePlaced, IsUnderway};
+ghost use Rattle.net_simplify.specs.private.Underway.{AreFormsBy, KnowsNext};
 
 use crate::catalog::Catalog;
 use crate::known::Known;
@@ -26,7 +21,7 @@ fn know_gate(
 ) -> Result<(), AllocError>
     requires { gate.now.out < length known.old.units }
     ensures long { OnOk result (length known.new.units ≡ length known.old.units) }
-    ensures step { OnOk result ((net : NetList) (ends : List ℕ) (gates : List GateValue) (i : ℕ) → ArePlaced net gates → slice_get gates i ≡ Some gate.now → AreMarks net ends gates marks.now → IsUnderway net ends gates i known.old catalog.old → IsUnderway net ends gates (i + 1) known.new catalog.new) }
+    ensures step { OnOk result (KnowsNext gate.now marks.now known.old catalog.old known.new catalog.new) }
 {
     if mark_at(marks, gate.out()) == 0 {
         return Ok(());
@@ -38,7 +33,7 @@ fn know_gate(
 pub fn know(alloc: Global, net: &Net, order: &[u32], marks: &[u8]) -> Result<Known, AllocError>
     requires { IsLevelOrder net.now order.now }
     ensures sound { IsSound net.now }
-    ensures forms { IfOk result (λ known. (ends : List ℕ) → AreMarks net.now ends (gates_by net.now.gates order.now) marks.now → AreForms net.now ends (gates_by net.now.gates order.now) (forms_of known)) }
+    ensures forms { IfOk result (λ known. AreFormsBy net.now order.now marks.now known) }
 {
     let gates = net.gates();
     let mut known = Known::new(alloc, net.nets())?;

@@ -8,12 +8,25 @@ use std::alloc::{AllocError, Global};
 use std::marker::Model;
 
 /// The unit and the body of each net: what it is of one net at most, and of nets before.
-#[derive(Drop)]
 pub(crate) struct Known {
     units: Vec<TableForm>,
     bodies: Vec<TableForm>,
     // What a net is that there is not.
     none: TableForm,
+}
+
+// By hand, so that a caller that lets one go makes one call, and not one for each part.
+impl Drop for Known {
+    fn drop(self) {
+        let Known {
+            units,
+            bodies,
+            none,
+        } = self;
+        drop(units);
+        drop(bodies);
+        drop(none);
+    }
 }
 
 impl Model for Known {

@@ -1,14 +1,10 @@
 //! Laws of simplified nets. These functions do nothing: their contracts are proved of the definitions alone.
 ghost use Rattle.std.specs.Prelude.{◌≡◌, ◌↔◌, ℕ, Bool, List};
 ghost use Rattle.net_core.specs.NetList.{NetList};
-ghost use Rattle.net_core.specs.Order.{IsLevelOrder};
 ghost use Rattle.net_core.specs.Sound.{IsSound};
 ghost use Rattle.net_core.specs.Value.{IsConsistent};
 ghost use Rattle.net_words.specs.Binding.{BoundNet};
-ghost use Rattle.net_words.specs.OneCycle.{IsOneCycle};
-ghost use Rattle.circuit_model.specs.OfBinding.{circuit_with};
-ghost use Rattle.circuit_model.specs.Out.{IsOut};
-ghost use Rattle.net_simplify.specs.Circuit.{IsSimplifiedCircuit};
+ghost use Rattle.net_simplify.specs.Circuit.{EachHasAnOrder, HaveSameOutputs, IsInOneCycle, IsSimplifiedCircuit};
 ghost use Rattle.net_simplify.specs.Simplified.{IsSimplified};
 
 /// A sound net list has one simplified net list at most.
@@ -30,13 +26,13 @@ pub fn one_simplified_circuit()
 /// Where the gates of each sound net list have an order, which its levels give, a circuit with a sound net list has a
 /// simplified circuit.
 pub fn some_simplified_circuit()
-    ensures { ((net : NetList) → IsSound net → (order : List ℕ) × IsLevelOrder net order) → (circuit : BoundNet) → IsSound circuit.net → (simple : BoundNet) × IsSimplifiedCircuit circuit simple }
+    ensures { EachHasAnOrder → (circuit : BoundNet) → IsSound circuit.net → (simple : BoundNet) × IsSimplifiedCircuit circuit simple }
 {}
 
 /// The simplified circuit is sound, its words are bound to it in one cycle, and at each input it has the output that the
 /// circuit has, and no other.
 pub fn simplified_circuits_compute_the_same()
     ensures sound { (circuit simple : BoundNet) → IsSound circuit.net → IsSimplifiedCircuit circuit simple → IsSound simple.net }
-    ensures one_cycle { (circuit simple : BoundNet) → IsSound circuit.net → IsOneCycle circuit.net circuit.binding → IsSimplifiedCircuit circuit simple → IsOneCycle simple.net simple.binding }
-    ensures output { (k : ℕ) (product : ℕ → ℕ → ℕ) (circuit simple : BoundNet) (bases : List (List ℕ)) (xs : List ℕ) (e : ℕ) → IsSound circuit.net → IsSimplifiedCircuit circuit simple → IsOut (circuit_with k product simple bases) xs e ↔ IsOut (circuit_with k product circuit bases) xs e }
+    ensures one_cycle { (circuit simple : BoundNet) → IsSound circuit.net → IsInOneCycle circuit → IsSimplifiedCircuit circuit simple → IsInOneCycle simple }
+    ensures output { (circuit simple : BoundNet) → IsSound circuit.net → IsSimplifiedCircuit circuit simple → HaveSameOutputs circuit simple }
 {}

@@ -1,5 +1,5 @@
 //! Nets made again with other gates.
-ghost use Rattle.std.specs.Prelude.{◌≡◌, ◌<◌, ◌+◌, ◌==◌, ◌++◌, ◌↔◌, [], ℕ, not, map, Some, IfOk, IsTrue, OnOk, if◌then◌else◌, false};
+ghost use Rattle.std.specs.Prelude.{◌≡◌, ◌<◌, ◌+◌, ◌==◌, ◌++◌, ◌↔◌, [], not, map, Some, IfOk, IsTrue, OnOk, if◌then◌else◌, false};
 ghost use Rattle.lists.specs.Lists.{Has, times};
 ghost use Rattle.net_core.specs.GateValue.{GateValue};
 ghost use Rattle.net_core.specs.Inside.{GateIsInside, IsNetName};
@@ -7,7 +7,7 @@ ghost use Rattle.net_core.specs.NetList.{empty, nets, number_of, text_of, with_g
 ghost use Rattle.net_core.specs.Sound.{IsSound};
 ghost use Rattle.net_simplify.specs.Simplified.{simple_gate};
 ghost use Rattle.net_simplify.specs.private.Lists.{form_at, forms_of};
-ghost use Rattle.net_simplify.specs.private.Marks.{HasLabelsTo, count_at};
+ghost use Rattle.net_simplify.specs.private.Marks.{HasLabelsTo, count_at, remade};
 
 use crate::known::Known;
 use crate::marking::mark_at;
@@ -160,7 +160,7 @@ fn add_outputs(maker: &mut NetMaker, net: &Net) -> Result<(), AllocError>
 // The net list with the gates that the forms give, which are not used again.
 fn with_forms(alloc: Global, net: &Net, known: Known, marks: &[u8]) -> Result<NetMaker, AllocError>
     requires gates { (g : GateValue) → Has net.now.gates g → GateIsInside (nets net.now) (simple_gate (count_at marks.now) (forms_of known) g) }
-    ensures { IfOk result (λ maker. maker ≡ record empty { labels = net.now.labels; inputs = net.now.inputs; outputs = net.now.outputs; gates = map (simple_gate (count_at marks.now) (forms_of known)) net.now.gates }) }
+    ensures { IfOk result (λ maker. maker ≡ remade net.now (count_at marks.now) (forms_of known)) }
 {
     let mut maker = with_labels(alloc, net)?;
     add_inputs(&mut maker, net)?;

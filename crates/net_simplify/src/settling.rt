@@ -1,17 +1,9 @@
 //! Units and bodies, gate by gate.
-ghost use Rattle.std.specs.Prelude.{◌≡◌, ◌<◌, ◌≤◌, ◌+◌, ℕ, List, map, length, Some, None, slice_get, IfOk, OnOk, cond};
-ghost use Rattle.std.specs.Str.{bytes_eq};
-ghost use Rattle.lists.specs.Lists.{Has};
-ghost use Rattle.net_core.specs.GateValue.{GateValue};
-ghost use Rattle.net_core.specs.NetList.{NetList};
-ghost use Rattle.net_simplify.specs.Choice.{IsChosen};
-ghost use Rattle.net_simplify.specs.Form.{IsComposed, IsForm, itself as itself_of};
+ghost use Rattle.std.specs.Prelude.{◌≡◌, ◌<◌, ◌≤◌, length, Some, None, IfOk, OnOk};
 ghost use Rattle.net_simplify.specs.Simplified.{AreTwins, IsUnitBy};
-ghost use Rattle.net_simplify.specs.Uses.{is_single};
-ghost use Rattle.net_simplify.specs.private.Best.{AreSingles};
-ghost use Rattle.net_simplify.specs.private.Catalog.{net_of, twin_key};
-ghost use Rattle.net_simplify.specs.private.Lists.{form_at, forms_of};
-ghost use Rattle.net_simplify.specs.private.Underway.{IsStep, IsUnderway};
+ghost use Rattle.net_simplify.specs.private.Catalog.{KeepsNew, TakesKept};
+ghost use Rattle.net_simplify.specs.private.Lists.{IsBodyOver, form_at, forms_of};
+ghost use Rattle.net_simplify.specs.private.Underway.{SettlesAs, SettlesBy};
 ghost use Rattle.net_simplify.specs.declared.catalog.Catalog.{Catalog as CatalogOf};
 
 use crate::catalog::Catalog;
@@ -24,7 +16,7 @@ use std::alloc::{AllocError, Global};
 
 // What a function of one net at most makes of this net's body.
 fn over_body(alloc: Global, known: &Known, form: &TableForm) -> Result<TableForm, AllocError>
-    ensures { IfOk result (λ body. IsForm form.now → length form.now.leaves ≤ 1 → ((n : ℕ) → Has form.now.leaves n → IsForm (form_at known.now.bodies n)) → IsComposed form.now.table (map (form_at known.now.bodies) form.now.leaves) body) }
+    ensures { IfOk result (λ body. IsBodyOver known.now.bodies form.now body) }
 {
     match form.leaves() {
         [leaf] => {
@@ -64,8 +56,8 @@ fn shared_unit(
     form: &TableForm,
     net: u32,
 ) -> Result<TableForm, AllocError>
-    ensures found { IfOk result (λ unit. (m : ℕ) → net_of catalog.old (twin_key form.now) ≡ Some m → (catalog.new ≡ catalog.old) × (AreTwins (form_at known.now.bodies m) form.now → IsUnitBy (forms_of known.now) form.now m unit)) }
-    ensures added { IfOk result (λ unit. net_of catalog.old (twin_key form.now) ≡ None → (unit ≡ itself_of net) × ((q : List ℕ) → net_of catalog.new q ≡ cond (bytes_eq q (twin_key form.now)) (Some net) (net_of catalog.old q))) }
+    ensures found { IfOk result (λ unit. TakesKept known.now form.now catalog.old catalog.new unit) }
+    ensures added { IfOk result (λ unit. KeepsNew form.now net catalog.old catalog.new unit) }
     ensures few { IfOk result (λ unit. length unit.leaves ≤ 1) }
 {
     let key = FormKey::new(alloc, form)?;
@@ -83,7 +75,7 @@ fn reduce(alloc: Global, gate: &Gate, known: &mut Known, form: TableForm) -> Res
     requires out { gate.now.out < length known.old.units }
     requires few { length form.leaves ≤ 1 }
     ensures long { OnOk result (length known.new.units ≡ length known.old.units) }
-    ensures step { OnOk result ((net : NetList) (ends : List ℕ) (gates : List GateValue) (i : ℕ) (catalog : CatalogOf) → IsStep net ends gates i gate.now known.old catalog → IsChosen (is_single net ends gates) (forms_of known.old) gate.now form → IsUnderway net ends gates (i + 1) known.new catalog) }
+    ensures step { OnOk result ((catalog : CatalogOf) → SettlesAs gate.now form known.old catalog known.new catalog) }
 {
     let body = over_body(alloc, known, &form)?;
     known.set(gate.out(), form, body);
@@ -101,7 +93,7 @@ fn share(
     requires out { gate.now.out < length known.old.units }
     requires more { 2 ≤ length form.leaves }
     ensures long { OnOk result (length known.new.units ≡ length known.old.units) }
-    ensures step { OnOk result ((net : NetList) (ends : List ℕ) (gates : List GateValue) (i : ℕ) → IsStep net ends gates i gate.now known.old catalog.old → IsChosen (is_single net ends gates) (forms_of known.old) gate.now form → IsUnderway net ends gates (i + 1) known.new catalog.new) }
+    ensures step { OnOk result (SettlesAs gate.now form known.old catalog.old known.new catalog.new) }
 {
     let unit = shared_unit(alloc, known, catalog, &form, gate.out())?;
     known.set(gate.out(), unit, form);
@@ -118,7 +110,7 @@ pub fn settle(
 ) -> Result<(), AllocError>
     requires { gate.now.out < length known.old.units }
     ensures long { OnOk result (length known.new.units ≡ length known.old.units) }
-    ensures step { OnOk result ((net : NetList) (ends : List ℕ) (gates : List GateValue) (i : ℕ) → IsStep net ends gates i gate.now known.old catalog.old → AreSingles (is_single net ends gates) marks.now → IsUnderway net ends gates (i + 1) known.new catalog.new) }
+    ensures step { OnOk result (SettlesBy gate.now marks.now known.old catalog.old known.new catalog.new) }
 {
     let form = choose(alloc, known, gate, marks)?;
     if form.leaves().len() <= 1 {

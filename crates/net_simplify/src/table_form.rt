@@ -75,7 +75,7 @@ impl TableForm {
         self.table
     }
 
-    /// The same once more.
+    /// A copy of the form.
     pub(crate) fn copy(&self, alloc: Global) -> Result<TableForm, AllocError>
         ensures { IfOk result (λ f. f ≡ self.now) }
     {

@@ -1,4 +1,5 @@
 pub mod Plain
 pub mod Written
 pub mod SameByName
+pub mod ReadBack
 pub mod private

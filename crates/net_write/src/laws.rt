@@ -8,6 +8,7 @@ ghost use Rattle.net_blif.specs.declared.fault.BlifFault.{BlifFault};
 ghost use Rattle.net_flat.specs.Flat.{Flattens};
 ghost use Rattle.net_flat.specs.declared.flat_fault.FlatFault.{FlatFault};
 ghost use Rattle.net_write.specs.Plain.{HasPlainNames};
+ghost use Rattle.net_write.specs.ReadBack.{IsReadAs, IsReadBackAs};
 ghost use Rattle.net_write.specs.SameByName.{IsSameByName};
 ghost use Rattle.net_write.specs.Written.{written};
 
@@ -15,9 +16,9 @@ ghost use Rattle.net_write.specs.Written.{written};
 /// fault. It has the same inputs, outputs, latches and gates, by name and in the same order, and its names are plain;
 /// its nets may have other numbers.
 pub fn written_net_is_read_back()
-    ensures read { (net : NetList) → IsSound net → HasPlainNames net → (design : List ModelValue) × BlifDesign (written net) (Ok design) }
+    ensures read { (net : NetList) → IsSound net → HasPlainNames net → (design : List ModelValue) × IsReadAs net design }
     ensures no_fault { (net : NetList) (fault : BlifFault) → IsSound net → HasPlainNames net → BlifDesign (written net) (Err fault) → ⊥ }
-    ensures flat { (net : NetList) (design : List ModelValue) → IsSound net → HasPlainNames net → BlifDesign (written net) (Ok design) → (other : NetList) × Flattens design 0 (Ok other) }
-    ensures no_flat_fault { (net : NetList) (design : List ModelValue) (fault : FlatFault) → IsSound net → HasPlainNames net → BlifDesign (written net) (Ok design) → Flattens design 0 (Err fault) → ⊥ }
-    ensures same { (net other : NetList) (design : List ModelValue) → IsSound net → HasPlainNames net → BlifDesign (written net) (Ok design) → Flattens design 0 (Ok other) → IsSameByName net other × HasPlainNames other }
+    ensures flat { (net : NetList) (design : List ModelValue) → IsSound net → HasPlainNames net → IsReadAs net design → (other : NetList) × Flattens design 0 (Ok other) }
+    ensures no_flat_fault { (net : NetList) (design : List ModelValue) (fault : FlatFault) → IsSound net → HasPlainNames net → IsReadAs net design → Flattens design 0 (Err fault) → ⊥ }
+    ensures same { (net other : NetList) → IsSound net → HasPlainNames net → IsReadBackAs net other → IsSameByName net other × HasPlainNames other }
 {}

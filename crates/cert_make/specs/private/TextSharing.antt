@@ -1,5 +1,5 @@
 -- Sharing as the code finds it: multipliers are the same where their texts are. Source: this project's own.
-use Rattle.std.specs.Prelude.{length, ◌≡◌, ℕ, ◌+◌, ◌==◌, cond, codes, decimal, List, [], ◌∷◌, ◌++◌, map, nat_lt, Option, Some, None}
+use Rattle.std.specs.Prelude.{length, ◌≡◌, ℕ, ◌+◌, ◌==◌, cond, codes, decimal, List, [], ◌∷◌, ◌++◌, map, nat_lt, Option, Some, None, Result, OnOk}
 use Rattle.std.specs.List.{AllByRecursion}
 use Rattle.std.specs.Option.{option_map}
 use Rattle.std.specs.BTreeMap.{get}
@@ -13,7 +13,9 @@ use Rattle.poly_mixed.specs.Polynomial.{Terms}
 use Rattle.poly_mixed.specs.Steps.{Step}
 use Rattle.poly_mixed.specs.Text.{text}
 use Rattle.poly_mixed.specs.laws.TextLaw.{IsWritten}
-use Rattle.cert_make.specs.CertText.{let_of}
+use Rattle.lists.specs.Lists.{Has}
+use Rattle.cert_make.specs.CertText.{let_of, lines_at, text_of_lines}
+use Rattle.cert_make.specs.Sharing.{shares_with}
 use Rattle.cert_make.specs.Writable.{IsWritablePair}
 use Rattle.cert_make.specs.declared.marks.Mark.{Mark}
 use Rattle.cert_make.specs.declared.marks.Mark.TheVariants.{Once, Often, Number}
@@ -97,3 +99,11 @@ pub record IsSharingOf (labels : Labelling) (k : ℕ) (pairs : List Step) (share
   pub written : AllByRecursion (IsWritten labels k) shares
   pub marks : AreMarks labels pairs shares sharing.marks
   pub count : sharing.count ≡ length shares
+
+-- among whatever pairs this pair is, and whatever was shared before, its lines are added
+abbrev pub AddsLinesOf : {F : Type 0} → Labelling → Step → Sharing → Result (Unit {0}) F → List ℕ → List ℕ → Type 0
+AddsLinesOf labels pair sharing result old new = (k : ℕ) (pairs : List Step) (shares : List Terms) → IsSharingOf labels k pairs shares sharing → Has pairs pair → OnOk result (new ≡ old ++ text_of_lines (lines_at labels pairs shares pair))
+
+-- among whatever pairs this pair is, and whatever was shared before, its multiplier is shared then where it is to be
+abbrev pub SharesWith : {F : Type 0} → Labelling → Step → Sharing → Result (Unit {0}) F → Sharing → Type 0
+SharesWith labels pair old result new = (k : ℕ) (pairs : List Step) (shares : List Terms) → IsSharingOf labels k pairs shares old → Has pairs pair → OnOk result (IsSharingOf labels k pairs (shares_with pairs shares pair.1) new)

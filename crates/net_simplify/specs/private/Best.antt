@@ -1,5 +1,5 @@
 -- The choice so far. Source: this project's own.
-use Rattle.std.specs.Prelude.{◌≡◌, ℕ, ◌<◌, ◌≤◌, Bool, ◌==◌, List, length}
+use Rattle.std.specs.Prelude.{◌≡◌, ℕ, ◌<◌, ◌≤◌, ◌+◌, Bool, ◌==◌, List, length}
 use Rattle.net_core.specs.GateValue.{GateValue}
 use Rattle.net_simplify.specs.Form.{Form}
 use Rattle.net_simplify.specs.Choice.{Forms, Gives, price}
@@ -16,3 +16,7 @@ pub record IsBest (single : ℕ → Bool) (forms : Forms) (gate : GateValue) (fo
   pub given : Gives forms gate opened form
   pub least : (others : ℕ) (other : Form) → others < tried → Gives forms gate others other → price single form.leaves ≤ price single other.leaves
   pub last : (others : ℕ) (other : Form) → opened < others → others < tried → Gives forms gate others other → price single form.leaves < price single other.leaves
+
+-- where the one is the best of the choices before a number, the other is the best of these and that with the number
+abbrev pub IsBetterOf : List ℕ → Forms → GateValue → ℕ → Form → Form → Type 0
+IsBetterOf marks forms gate opened best form = (single : ℕ → Bool) → AreSingles single marks → IsBest single forms gate best opened → IsBest single forms gate form (opened + 1)

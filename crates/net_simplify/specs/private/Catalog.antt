@@ -1,14 +1,16 @@
 -- Bodies by their numbers. Source: this project's own.
-use Rattle.std.specs.Prelude.{◌≡◌, ◌⊎◌, ◌≢◌, ◌<◌, ◌≤◌, ℕ, ◌/◌, ◌%◌, ◌^◌, ◌==◌, List, [], ◌∷◌, Option, None, Some, length, slice_get, if◌then◌else◌}
+use Rattle.std.specs.Prelude.{◌≡◌, ◌⊎◌, ◌≢◌, ◌<◌, ◌≤◌, ℕ, ◌/◌, ◌%◌, ◌^◌, ◌==◌, List, [], ◌∷◌, Option, None, Some, length, slice_get, cond, if◌then◌else◌}
 use Rattle.std.specs.BTreeMap.{get}
 use Rattle.std.specs.Cmp.{IsTotalOrder}
 use Rattle.std.specs.Cmp.Lexicographic.{slice_cmp, nat_list_cmp_total}
 use Rattle.std.specs.declared.cmp.Ordering.{Ordering}
 use Rattle.std.specs.Ordering.{nat_cmp}
+use Rattle.std.specs.Str.{bytes_eq}
 use Rattle.net_core.specs.GateValue.{GateValue}
-use Rattle.net_simplify.specs.Form.{Form, IsForm, complement}
+use Rattle.net_simplify.specs.Form.{Form, IsForm, complement, itself}
 use Rattle.net_simplify.specs.Choice.{Forms}
-use Rattle.net_simplify.specs.Simplified.{AreTwins, IsFirst}
+use Rattle.net_simplify.specs.Simplified.{AreTwins, IsFirst, IsUnitBy}
+use Rattle.net_simplify.specs.private.Lists.{FormLists, form_at, forms_of}
 use Rattle.net_simplify.specs.declared.catalog.Catalog.{Catalog}
 
 -- lists of numbers in their order
@@ -43,3 +45,11 @@ IsFound used gates i forms form None = (j : ℕ) (g : GateValue) → j < i → s
 -- each body of two leaves or more before place i is found
 abbrev pub IsCatalog : (ℕ → ℕ) → List GateValue → ℕ → Forms → Catalog → Type 0
 IsCatalog used gates i forms catalog = (form : Form) → IsForm form → 2 ≤ length form.leaves → IsFound used gates i forms form (net_of catalog (twin_key form))
+
+-- where a net is kept for the body, the catalog stays, and the unit is that net, or its complement where the body is that of its own
+abbrev pub TakesKept : FormLists → Form → Catalog → Catalog → Form → Type 0
+TakesKept lists form old new unit = (m : ℕ) → net_of old (twin_key form) ≡ Some m → (new ≡ old) × (AreTwins (form_at lists.bodies m) form → IsUnitBy (forms_of lists) form m unit)
+
+-- where none is kept for it, the unit is this net, which is kept from then on
+abbrev pub KeepsNew : Form → ℕ → Catalog → Catalog → Form → Type 0
+KeepsNew form net old new unit = net_of old (twin_key form) ≡ None → (unit ≡ itself net) × ((q : List ℕ) → net_of new q ≡ cond (bytes_eq q (twin_key form)) (Some net) (net_of old q))

@@ -1,5 +1,5 @@
 -- Units and bodies as lists, and indices of tables. Source: this project's own.
-use Rattle.std.specs.Prelude.{◌≡◌, ◌≢◌, ◌⊎◌, ℕ, zero, suc, drop, remove, ◌<◌, ◌≤◌, ◌+◌, ◌*◌, ◌/◌, ◌%◌, ◌^◌, Bool, true, false, ◌==◌, nat_lt, List, [], ◌∷◌, Option, Some, None, length, slice_get, unwrap_or, if◌then◌else◌}
+use Rattle.std.specs.Prelude.{◌≡◌, ◌≢◌, ◌⊎◌, ℕ, zero, suc, drop, remove, ◌<◌, ◌≤◌, ◌+◌, ◌*◌, ◌/◌, ◌%◌, ◌^◌, Bool, true, false, ◌==◌, nat_lt, List, [], ◌∷◌, Option, Some, None, length, slice_get, map, unwrap_or, if◌then◌else◌}
 use Rattle.std.specs.Int.{bit_at}
 use Rattle.std.specs.Option.{option_map_or}
 use Rattle.lists.specs.Lists.{Has}
@@ -92,3 +92,7 @@ IsWordOver leaves table forms word = HoldLeaves leaves forms → IsWordOf leaves
 -- the bit of the table at some index is another one where the bit at this place is
 abbrev pub IsTold : ℕ → ℕ → ℕ → Type 0
 IsTold table places place = (i : ℕ) × (i < 2 ^ places) × (bit_at table (with_place place 0 i) ≢ bit_at table (with_place place 1 i))
+
+-- where the form has one leaf at most, the body is what the form is of its leaf's body
+abbrev pub IsBodyOver : List Form → Form → Form → Type 0
+IsBodyOver bodies form body = IsForm form → length form.leaves ≤ 1 → ((n : ℕ) → Has form.leaves n → IsForm (form_at bodies n)) → IsComposed form.table (map (form_at bodies) form.leaves) body

@@ -1,5 +1,5 @@
 -- Units and bodies of the gates so far. Source: this project's own.
-use Rattle.std.specs.Prelude.{◌≡◌, ◌≢◌, ◌⊎◌, ◌<◌, ℕ, List, Some, length, slice_get}
+use Rattle.std.specs.Prelude.{◌≡◌, ◌≢◌, ◌⊎◌, ◌<◌, ◌+◌, ℕ, List, Some, length, slice_get}
 use Rattle.net_core.specs.GateValue.{GateValue}
 use Rattle.lists.specs.Lists.{Has}
 use Rattle.net_core.specs.NetList.{NetList, nets}
@@ -7,11 +7,11 @@ use Rattle.net_core.specs.Sound.{sources}
 use Rattle.net_simplify.specs.Form.{Form, itself}
 use Rattle.net_simplify.specs.Uses.{is_single, uses}
 use Rattle.net_simplify.specs.Choice.{Forms, IsChosen}
-use Rattle.net_simplify.specs.Simplified.{IsReduced, IsShared}
+use Rattle.net_simplify.specs.Simplified.{AreForms, IsReduced, IsShared}
 use Rattle.net_simplify.specs.private.Best.{AreSingles}
 use Rattle.net_simplify.specs.private.Catalog.{IsCatalog}
-use Rattle.net_simplify.specs.private.Lists.{FormLists, form_at}
-use Rattle.net_simplify.specs.private.Marks.{count_at}
+use Rattle.net_simplify.specs.private.Lists.{FormLists, form_at, forms_of}
+use Rattle.net_simplify.specs.private.Marks.{count_at, gates_by}
 use Rattle.net_simplify.specs.declared.catalog.Catalog.{Catalog}
 
 -- a source, or driven by one of the first i gates
@@ -65,3 +65,19 @@ pub record IsStep (net : NetList) (ends : List ℕ) (gates : List GateValue) (i 
   pub got : slice_get gates i ≡ Some g
   pub used : uses ends gates g.out ≢ 0
   pub underway : IsUnderway net ends gates i lists catalog
+
+-- wherever the gate is the next and is used, and this is the function that is chosen for it, the new lists and the new catalog are right behind it
+abbrev pub SettlesAs : GateValue → Form → FormLists → Catalog → FormLists → Catalog → Type 0
+SettlesAs gate form old catalog new next = (net : NetList) (ends : List ℕ) (gates : List GateValue) (i : ℕ) → IsStep net ends gates i gate old catalog → IsChosen (is_single net ends gates) (forms_of old) gate form → IsUnderway net ends gates (i + 1) new next
+
+-- wherever the gate is the next and is used, and the marks tell which nets are used once, they are right behind it
+abbrev pub SettlesBy : GateValue → List ℕ → FormLists → Catalog → FormLists → Catalog → Type 0
+SettlesBy gate marks old catalog new next = (net : NetList) (ends : List ℕ) (gates : List GateValue) (i : ℕ) → IsStep net ends gates i gate old catalog → AreSingles (is_single net ends gates) marks → IsUnderway net ends gates (i + 1) new next
+
+-- wherever the gate is the next, and the marks tell how often nets are used, they are right behind it
+abbrev pub KnowsNext : GateValue → List ℕ → FormLists → Catalog → FormLists → Catalog → Type 0
+KnowsNext gate marks old catalog new next = (net : NetList) (ends : List ℕ) (gates : List GateValue) (i : ℕ) → ArePlaced net gates → slice_get gates i ≡ Some gate → AreMarks net ends gates marks → IsUnderway net ends gates i old catalog → IsUnderway net ends gates (i + 1) new next
+
+-- where the marks tell how often nets are used, the lists have the units and the bodies of the gates in this order
+abbrev pub AreFormsBy : NetList → List ℕ → List ℕ → FormLists → Type 0
+AreFormsBy net order marks lists = (ends : List ℕ) → AreMarks net ends (gates_by net.gates order) marks → AreForms net ends (gates_by net.gates order) (forms_of lists)

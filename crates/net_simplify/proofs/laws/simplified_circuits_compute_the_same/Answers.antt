@@ -8,4 +8,4 @@ pub returns-clause-one_cycle : goal.returns-clause-one_cycle
 returns-clause-one_cycle c = circuit_cycle
 
 pub returns-clause-output : goal.returns-clause-output
-returns-clause-output c = circuit_out
+returns-clause-output c = λ circuit simple sound is k product bases xs e. circuit_out k product circuit simple bases xs e sound is

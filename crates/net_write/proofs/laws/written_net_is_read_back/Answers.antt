@@ -14,4 +14,4 @@ pub returns-clause-no_flat_fault : goal.returns-clause-no_flat_fault
 returns-clause-no_flat_fault c = λ net design fault sound plain. no_flat_fault net sound plain design fault
 
 pub returns-clause-same : goal.returns-clause-same
-returns-clause-same c = λ net other design sound plain. is_same net sound plain design other
+returns-clause-same c = λ net other sound plain back. is_same net sound plain back.0 other back.1 back.2
