@@ -8,4 +8,5 @@ pub mod AlikeLemmas
 pub mod SameLemmas
 pub mod EqualLemmas
 pub mod EqualFunctionLemmas
+pub mod SomeComparisonLemmas
 mod Examples

@@ -1,3 +1,4 @@
 pub mod ReadBackLemmas
 pub mod TableLemmas
 pub mod IsoLemmas
+pub mod SomeTableLemmas

@@ -38,3 +38,11 @@ abbrev pub LiftAnswer : Option Files → SettingValue → Word → Outcome Fault
 LiftAnswer held setting file = do
   small ← SmallEnough setting
   LiftOver held setting file
+
+-- so it is with what the shelf holds
+abbrev pub LiftAnswerTo : SettingValue → Word → Option Files → Outcome Fault Reply
+LiftAnswerTo setting file held = LiftAnswer held setting file
+
+-- and after the signature was found small
+abbrev pub LiftOverTo : SettingValue → Word → Option Files → Outcome Fault Reply
+LiftOverTo setting file held = LiftOver held setting file

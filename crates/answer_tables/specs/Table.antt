@@ -7,6 +7,7 @@ use Rattle.lift_table.specs.CircuitTable.{IsTableOf}
 use Rattle.lift_table.specs.TableText.{table_text}
 use Rattle.job_words.specs.declared.fault.Fault.{Fault}
 use Rattle.job_words.specs.Operands.{Word}
+use Rattle.job_words.specs.declared.words.CycleWords.{CycleWords}
 use Rattle.job_input.specs.CircuitOf.{CircuitIn}
 use Rattle.job_input.specs.SettingValue.{SettingValue}
 use Rattle.answer_core.specs.Reply.{Reply}
@@ -29,3 +30,11 @@ abbrev pub TableAnswer : Option Files → SettingValue → Word → (cycles : �
 TableAnswer held setting net cycles = do
   small ← SmallEnough setting
   TableOver held setting net cycles
+
+-- so it is with the words of the command
+abbrev pub TableAnswerTo : SettingValue → CycleWords → Option Files → Outcome Fault Reply
+TableAnswerTo setting words held = TableAnswer held setting words.net.now words.cycles
+
+-- and after the signature was found small
+abbrev pub TableOverTo : SettingValue → CycleWords → Option Files → Outcome Fault Reply
+TableOverTo setting words held = TableOver held setting words.net.now words.cycles

@@ -1,11 +1,11 @@
 //! The command `iso`: the isomorphism from a tower to a field of polynomials over 0 and 1.
+ghost use Rattle.answer_core.specs.Replies.{Replies};
 ghost use Rattle.std.specs.Prelude.{◌≡◌, ◌≤◌, ◌++◌, ◌∷◌, ◌^◌, [], IfOk, OnOk};
 ghost use Rattle.gf_basis.specs.Basis.{first_values};
 ghost use Rattle.gf_field.specs.Ring2k.{modulus_of};
 ghost use Rattle.gf_iso.specs.IsoParts.{size_of, there_of};
 ghost use Rattle.gf_tower.specs.TowerParts.{base_of, coefficients_of};
 ghost use Rattle.irreducible.specs.Proved.{ring_of};
-ghost use Rattle.job_io.specs.Counts.{Rose};
 ghost use Rattle.job_words.specs.Stop.{GivesBy};
 ghost use Rattle.lift_table.specs.TableText.{value_lines};
 ghost use Rattle.poly_mixed.specs.Text.{hex_text};
@@ -32,8 +32,7 @@ pub fn answer<S: Shelf>(
 ) -> Result<Output, Stop>
     ensures held { S.held shelf.new ≡ S.held shelf.old }
     ensures never_fall { (S.faults shelf.old ≤ S.faults shelf.new) × (S.misses shelf.old ≤ S.misses shelf.new) }
-    ensures gives { GivesBy reply_of result (IsoAnswer (S.held shelf.old) setting.now.signature file.now)
-        (Rose (S.misses shelf.old) (S.misses shelf.new)) (Rose (S.faults shelf.old) (S.faults shelf.new)) }
+    ensures gives { Replies S.held S.misses S.faults shelf.old shelf.new result (λ held. IsoAnswer held setting.now.signature file.now) }
 {
     match read_second(alloc, shelf, file) {
         Ok(second) => reply(alloc, &setting.signature, &second),

@@ -1,13 +1,13 @@
 //! The command `lift`: the polynomial of a table.
+ghost use Rattle.answer_core.specs.Replies.{Replies};
 ghost use Rattle.std.specs.Prelude.{◌≡◌, ◌≤◌, ◌*◌, ◌^◌, length};
 ghost use Rattle.gf_field.specs.Element.{AreElements};
-ghost use Rattle.job_io.specs.Counts.{Rose};
 ghost use Rattle.lift_table.specs.Small.{IsSmall};
 ghost use Rattle.job_words.specs.Stop.{GivesBy};
 ghost use Rattle.job_input.specs.Labelling.{labels_of};
 ghost use Rattle.job_input.specs.Setting.{setting_value, IsReady};
 ghost use Rattle.answer_core.specs.Reply.{reply_of};
-ghost use Rattle.answer_tables.specs.Lift.{LiftReply, LiftOver, LiftAnswer};
+ghost use Rattle.answer_tables.specs.Lift.{LiftReply, LiftOverTo, LiftAnswerTo};
 
 use crate::small_setting::is_small_setting;
 use answer_core::{Output, labels, polynomial_line};
@@ -30,8 +30,7 @@ pub fn answer<F: Field, S: Shelf>(
     requires { IsReady (F.degree field.now) (F.product field.now) setting.now }
     ensures held { S.held shelf.new ≡ S.held shelf.old }
     ensures never_fall { (S.faults shelf.old ≤ S.faults shelf.new) × (S.misses shelf.old ≤ S.misses shelf.new) }
-    ensures gives { GivesBy reply_of result (LiftAnswer (S.held shelf.old) (setting_value (F.degree field.now) (F.product field.now) setting.now) file.now)
-        (Rose (S.misses shelf.old) (S.misses shelf.new)) (Rose (S.faults shelf.old) (S.faults shelf.new)) }
+    ensures gives { Replies S.held S.misses S.faults shelf.old shelf.new result (LiftAnswerTo (setting_value (F.degree field.now) (F.product field.now) setting.now) file.now) }
 {
     let labels = labels(alloc, field, setting)?;
     if !is_small_setting(field, &labels) {
@@ -54,8 +53,7 @@ fn over<F: Field, S: Shelf>(
     requires small { IsSmall (F.degree field.now) (length labels.now.words) }
     ensures held { S.held shelf.new ≡ S.held shelf.old }
     ensures never_fall { (S.faults shelf.old ≤ S.faults shelf.new) × (S.misses shelf.old ≤ S.misses shelf.new) }
-    ensures gives { GivesBy reply_of result (LiftOver (S.held shelf.old) (setting_value (F.degree field.now) (F.product field.now) setting.now) file.now)
-        (Rose (S.misses shelf.old) (S.misses shelf.new)) (Rose (S.faults shelf.old) (S.faults shelf.new)) }
+    ensures gives { Replies S.held S.misses S.faults shelf.old shelf.new result (LiftOverTo (setting_value (F.degree field.now) (F.product field.now) setting.now) file.now) }
 {
     match read_table_file(alloc, shelf, field.k(), labels.words(), file) {
         Ok(table) => reply(alloc, field, setting, labels, &table),

@@ -1,12 +1,12 @@
 //! The command `table`: the output word's element at every input.
+ghost use Rattle.answer_core.specs.Replies.{Replies};
 ghost use Rattle.std.specs.Prelude.{◌≡◌, ◌≤◌, length};
-ghost use Rattle.job_io.specs.Counts.{Rose};
 ghost use Rattle.lift_table.specs.Small.{IsSmall};
 ghost use Rattle.job_words.specs.Stop.{GivesBy};
 ghost use Rattle.job_input.specs.Labelling.{labels_of};
 ghost use Rattle.job_input.specs.Setting.{setting_value, IsReady, IsTakenFor};
 ghost use Rattle.answer_core.specs.Reply.{reply_of};
-ghost use Rattle.answer_tables.specs.Table.{TableReply, TableOver, TableAnswer};
+ghost use Rattle.answer_tables.specs.Table.{TableReply, TableOverTo, TableAnswerTo};
 
 use crate::small_setting::is_small_setting;
 use answer_core::{Output, labels};
@@ -29,8 +29,7 @@ pub fn answer<F: Field, S: Shelf>(
     requires { IsReady (F.degree field.now) (F.product field.now) setting.now }
     ensures held { S.held shelf.new ≡ S.held shelf.old }
     ensures never_fall { (S.faults shelf.old ≤ S.faults shelf.new) × (S.misses shelf.old ≤ S.misses shelf.new) }
-    ensures gives { GivesBy reply_of result (TableAnswer (S.held shelf.old) (setting_value (F.degree field.now) (F.product field.now) setting.now) words.now.net.now words.now.cycles)
-        (Rose (S.misses shelf.old) (S.misses shelf.new)) (Rose (S.faults shelf.old) (S.faults shelf.new)) }
+    ensures gives { Replies S.held S.misses S.faults shelf.old shelf.new result (TableAnswerTo (setting_value (F.degree field.now) (F.product field.now) setting.now) words.now) }
 {
     let labels = labels(alloc, field, setting)?;
     if !is_small_setting(field, &labels) {
@@ -51,8 +50,7 @@ fn over<F: Field, S: Shelf>(
     requires small { IsSmall (F.degree field.now) (length (labels_of (F.degree field.now) setting.now.signature.words).words) }
     ensures held { S.held shelf.new ≡ S.held shelf.old }
     ensures never_fall { (S.faults shelf.old ≤ S.faults shelf.new) × (S.misses shelf.old ≤ S.misses shelf.new) }
-    ensures gives { GivesBy reply_of result (TableOver (S.held shelf.old) (setting_value (F.degree field.now) (F.product field.now) setting.now) words.now.net.now words.now.cycles)
-        (Rose (S.misses shelf.old) (S.misses shelf.new)) (Rose (S.faults shelf.old) (S.faults shelf.new)) }
+    ensures gives { Replies S.held S.misses S.faults shelf.old shelf.new result (TableOverTo (setting_value (F.degree field.now) (F.product field.now) setting.now) words.now) }
 {
     match read_circuit(alloc, shelf, setting, words.net, words.cycles) {
         Ok(circuit) => reply(alloc, field, setting, &circuit),

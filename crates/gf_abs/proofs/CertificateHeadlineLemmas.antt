@@ -1,6 +1,7 @@
 -- What the answers of `certify`, `verify` and `upgrade` say, out of what comes of their steps.
 use Rattle.std.proofs.Common.{◌≡◌, ◌∙◌, ap, refl, sym, subst, ℕ, ◌*◌, ◌^◌, ◌<◌, ◌≤◌, List, [], ◌∷◌, ◌++◌, length, Some, Ok, codes, arith}
 use Rattle.std.proofs.lemmas.List.{length-append}
+use Rattle.lists.specs.Limits.{most_bytes}
 use Rattle.lists.specs.laws.OptionLaws.{same_ok}
 use Rattle.job_io.specs.Shelf.{Files}
 use Rattle.net_core.specs.NetList.{nets}
@@ -20,13 +21,14 @@ use Rattle.stage_model.proofs.BoundLemmas.{bound_within}
 use Rattle.stage_model.proofs.ListingLemmas.{both_within}
 use Rattle.cert_check.specs.Labels.{NameWords}
 use Rattle.cert_check.specs.Output.{IsOutput}
-use Rattle.cert_check.specs.Verdict.{Verdict, valid, invalid, Check}
+use Rattle.cert_check.specs.Certificate.{Certificate, CertificateOf}
+use Rattle.cert_check.specs.Verdict.{AsksAtMost, Verdict, valid, invalid, Check}
 use Rattle.cert_check.proofs.OutputLawLemmas.{proves_output}
 use Rattle.cert_make.specs.CertText.{cert_text, let_lines, lines_at, lines_from, pair_line, text_of_lines}
 use Rattle.cert_make.specs.CircuitLabels.{NameVariables}
 use Rattle.cert_make.specs.Sharing.{shares_with}
 use Rattle.cert_make.specs.Writable.{HaveNumbers}
-use Rattle.cert_make.proofs.UpgradeLemmas.{keeps_verdict}
+use Rattle.cert_make.proofs.UpgradeLemmas.{keeps_pairs, keeps_verdict, text_free}
 use Rattle.cert_laws.proofs.AcceptedLemmas.{is_accepted}
 use Rattle.job_words.specs.Operands.{Word}
 use Rattle.job_words.specs.Command.{Certify, Upgrade, Verify, Job, Over, IsSpelled}
@@ -46,7 +48,7 @@ use Rattle.job_input.proofs.SettingDetermined.{setting_determined}
 use Rattle.job_input.proofs.SettingSoundLemmas.{setting_sound}
 use Rattle.job_input.proofs.SignedLemmas.{setting_names}
 use Rattle.gf_abs.specs.Answer.{JobAnswer}
-use Rattle.gf_abs.specs.CertificateHeadline.{AnswersCertify, AnswersUpgrade, AnswersVerify, HoldOneJob, IsAccepted, PrintsHeldProof, PrintsProof}
+use Rattle.gf_abs.specs.CertificateHeadline.{AnswersCertify, AnswersUpgrade, AnswersVerify, HoldOneJob, IsAccepted, PrintsHeldClaim, PrintsHeldProof, PrintsProof, PrintsTheSamePairs}
 use Rattle.answer_certificates.specs.Certificates.{certificate_labels}
 use Rattle.answer_core.specs.Printed.{AreHeld}
 use Rattle.answer_core.specs.Reply.{Reply}
@@ -230,26 +232,27 @@ few_pairs labels claim pairs short =
     let whole = lines_short (codes "gfcert 2" ∷ (codes "claim " ++ (labels.output ++ (codes " = " ++ text labels claim))) ∷ lines_from labels pairs [] pairs) in
     omega (arith, lines, whole, short)
 
-module _ (files others : Files) (signature net certificate : Word) (cycles : ℕ) (reply : Reply) (bound most : ℕ) (one : HoldOneJob files others signature net) (kept : Read (Some others) certificate (Ok reply.text)) (times : 4 * bound ≤ most) where
+module _ (net : Word) (bytes text printed : List ℕ) (cycles bound most : ℕ) (short : length printed ≤ most_bytes) (times : 4 * bound ≤ most) where
   -- what was certified of these texts is valid
-  valid_there : (setting : SettingValue) (circuit : BoundNet) → IsOfTexts net one.bytes one.text cycles setting circuit → IsCertificateText setting circuit reply.text → AreAllWithin setting.k setting.product (abstract_stages setting circuit) bound → (claim : Terms) × VerdictOf setting circuit most reply.text (Ok (valid claim))
+  valid_there : (setting : SettingValue) (circuit : BoundNet) → IsOfTexts net bytes text cycles setting circuit → IsCertificateText setting circuit printed → AreAllWithin setting.k setting.product (abstract_stages setting circuit) bound → (claim : Terms) × VerdictOf setting circuit most printed (Ok (valid claim))
   valid_there setting circuit of is all =
       let k = setting.k in
       let mul = setting.product in
-      let sound = of_sound net one.bytes one.text cycles setting circuit of in
-      let cycle = of_cycle net one.bytes one.text cycles setting circuit of in
+      let sound = of_sound net bytes text cycles setting circuit of in
+      let cycle = of_cycle net bytes text cycles setting circuit of in
       let labels = certificate_labels setting circuit in
-      let long = bases_long setting circuit sound (by_ending net one.text) cycles of.is_circuit in
+      let long = bases_long setting circuit sound (by_ending net text) cycles of.is_circuit in
       let cuts = (bound_within k mul circuit setting.bases _ bound long refl).0 (λ name listed. all (Earlier name) listed) in
       let within : AreAllWithin k mul (circuit_stages (taken_circuit setting circuit)) bound = both_within k mul (circuit_cuts (taken_circuit setting circuit)) (word_listing (taken_circuit setting circuit)) bound cuts (λ name listed. all (Later name) listed) in
       let W : List (List ℕ) → Type 0 = λ es. AreAllWithin k mul (circuit_stages (circuit_with k mul circuit es)) bound in
       let L : List ℕ → Type 0 = λ t. length t ≤ 67108864 in
       let C : List ℕ → Type 0 = λ t. Check k mul circuit is.bases labels most t (Ok (valid is.claim)) in
       let accepted =
-      is_accepted k mul circuit is.bases labels is.claim is.pairs bound most sound.ring sound.field cycle.0 cycle.1 (of_bits net one.bytes one.text cycles setting circuit of) is.duals.are (of_numbers net one.bytes one.text cycles setting circuit of) (of_variables net one.bytes one.text cycles setting circuit of)
-      is.recorded (subst W (sym is.duals.elements) within) (few_pairs labels is.claim is.pairs (subst L is.written kept.1)) times in
+      is_accepted k mul circuit is.bases labels is.claim is.pairs bound most sound.ring sound.field cycle.0 cycle.1 (of_bits net bytes text cycles setting circuit of) is.duals.are (of_numbers net bytes text cycles setting circuit of) (of_variables net bytes text cycles setting circuit of)
+      is.recorded (subst W (sym is.duals.elements) within) (few_pairs labels is.claim is.pairs (subst L is.written short)) times in
       (is.claim, (is.bases, is.duals, subst C (sym is.written) accepted))
 
+module _ (files others : Files) (signature net certificate : Word) (cycles : ℕ) (reply : Reply) (bound most : ℕ) (one : HoldOneJob files others signature net) (kept : Read (Some others) certificate (Ok reply.text)) (times : 4 * bound ≤ most) where
   job_accepts : JobAnswer (Some files) (Over signature (Certify net bound cycles)) (Ok reply) → (words : List Word) → IsSpelled words (Over signature (Verify net certificate most cycles)) → IsAccepted others words
   job_accepts (signed, (bytes, read, is), (setting, are, (circuit, (netlist, (text, read', taken), of), (certified, (is_text, all), exactly)))) words spelled =
       let same_bytes : bytes ≡ one.bytes = one_read files signature bytes one.bytes read one.signature_read in
@@ -259,7 +262,7 @@ module _ (files others : Files) (signature net certificate : Word) (cycles : ℕ
       let is' = subst P same_bytes is in
       let taken' = subst Q same_text taken in
       let R : List ℕ → Type 0 = λ t. IsCertificateText setting circuit t in
-      let found = valid_there setting circuit (record { is_setting = (signed, is', are); is_circuit = (netlist, taken', of) }) (subst R (sym (ap (λ (r : Reply). r.text) exactly)) is_text) all in
+      let found = valid_there net one.bytes one.text reply.text cycles bound most kept.1 times setting circuit (record { is_setting = (signed, is', are); is_circuit = (netlist, taken', of) }) (subst R (sym (ap (λ (r : Reply). r.text) exactly)) is_text) all in
       record {
         reply = verify_reply (labels_of setting.k setting.signature.words) (valid found.0);
         answer = (Over signature (Verify net certificate most cycles), spelled, (signed, (one.bytes, one.signature_too, is'), (setting, are, ((circuit, reply.text), (netlist, (one.text, one.net_too, taken'), (reply.text, kept, (circuit, of, refl))), (valid found.0, found.1, refl)))));
@@ -273,7 +276,58 @@ certify_accepted files others words more signature net certificate bound most cy
     let answer = answers.answer in
     job_accepts files others signature net certificate cycles reply bound most one kept times (subst P (one_job words answer.0 (Over signature (Certify net bound cycles)) answer.1 answers.spelled) answer.2) more spelled
 
--- ---- an upgrade keeps the verdict
+-- ---- the claim of what is certified is the output
+
+-- a certificate's text that is valid says its claim
+record Says (setting : SettingValue) (circuit : BoundNet) (text : List ℕ) (claim : Terms) : Type 0 where
+  said : Certificate
+  read : CertificateOf setting.k circuit.net (certificate_labels setting circuit) text (Ok said)
+  same : claim ≡ said.claim
+
+says : (setting : SettingValue) (circuit : BoundNet) (most : ℕ) (text : List ℕ) (claim : Terms) → HaveNumbers setting.k circuit.net (certificate_labels setting circuit) → VerdictOf setting circuit most text (Ok (valid claim)) → Says setting circuit text claim
+says setting circuit most text claim numbers (bases, duals, (said, read, (same, last))) =
+    record {
+      said = said;
+      read = text_free setting.k circuit.net (certificate_labels setting circuit) numbers (AsksAtMost setting.k setting.product circuit bases most) text said read;
+      same = same;
+    }
+
+module _ (files : Files) (signature net : Word) (bound cycles : ℕ) (reply : Reply) (short : length reply.text ≤ most_bytes) where
+  claimed : (setting : SettingValue) (netlist circuit : BoundNet) (bytes text : List ℕ) → Read (Some files) signature (Ok bytes) → Read (Some files) net (Ok text) → SettingOf bytes (Ok setting) → BoundNetOf setting.signature (by_ending net text) (Ok netlist) → CircuitOf netlist cycles (Ok circuit)
+      → IsCertificateText setting circuit reply.text → AreAllWithin setting.k setting.product (abstract_stages setting circuit) bound → PrintsHeldClaim files signature net cycles reply
+  claimed setting netlist circuit bytes text read read' is taken of is_text all =
+      let texts : IsOfTexts net bytes text cycles setting circuit = record { is_setting = is; is_circuit = (netlist, taken, of) } in
+      let found = valid_there net bytes text reply.text cycles bound (4 * bound) short (omega arith) setting circuit texts is_text all in
+      let says' = says setting circuit (4 * bound) reply.text found.0 (of_numbers net bytes text cycles setting circuit texts) found.1 in
+      let c : Circuit = taken_circuit setting circuit in
+      let job : Circuit = job_of setting netlist cycles in
+      let behind : IsUnrolled setting circuit job = unrolled bytes (by_ending net text) cycles setting netlist circuit is taken of in
+      let P : Terms → Type 0 = λ claim. IsOutput c claim in
+      let output = subst P says'.same (of_claim net bytes text cycles setting circuit texts (4 * bound) reply.text found.0 found.1) in
+      record {
+        setting = setting;
+        job = job;
+        circuit = circuit;
+        held = held_job files signature net cycles setting netlist bytes text read read' is taken;
+        given = record { bytes = bytes; signature_read = read; is_setting = is; netlist = text; net_read = read'; is_circuit = (netlist, taken, of) };
+        said = says'.said;
+        read = says'.read;
+        in_words = words_to setting c job behind.one says'.said.claim (record { reduced = output.reduced; words = record { bits = output.no_bits; words = output.words_alone } });
+        values = output_to setting c job behind.one says'.said.claim output.values;
+      }
+
+  job_claims : JobAnswer (Some files) (Over signature (Certify net bound cycles)) (Ok reply) → PrintsHeldClaim files signature net cycles reply
+  job_claims (signed, (bytes, read, is), (setting, are, (circuit, (netlist, (text, read', taken), of), (certified, (is_text, all), exactly)))) =
+      let R : List ℕ → Type 0 = λ t. IsCertificateText setting circuit t in
+      claimed setting netlist circuit bytes text read read' (signed, is, are) taken of (subst R (sym (ap (λ (r : Reply). r.text) exactly)) is_text) all
+
+pub certify_claims : (files : Files) (words : List Word) (signature net : Word) (bound cycles : ℕ) (reply : Reply) → AnswersCertify files words signature net bound cycles reply → length reply.text ≤ most_bytes → PrintsHeldClaim files signature net cycles reply
+certify_claims files words signature net bound cycles reply answers short =
+    let P : Job → Type 0 = λ job. JobAnswer (Some files) job (Ok reply) in
+    let answer = answers.answer in
+    job_claims files signature net bound cycles reply short (subst P (one_job words answer.0 (Over signature (Certify net bound cycles)) answer.1 answers.spelled) answer.2)
+
+-- ---- an upgrade keeps the claim, the pairs and the verdict
 
 record Upgraded (files : Files) (signature net certificate : Word) (cycles : ℕ) (reply : Reply) : Type 0 where
   setting : SettingValue
@@ -293,6 +347,30 @@ job_upgrades files signature net certificate cycles reply (signed, (bytes, read,
       cert = cert;
       cert_read = cert_read;
       is = subst P same came;
+    }
+
+pub upgrade_says : (files : Files) (words : List Word) (signature net certificate : Word) (cycles : ℕ) (reply : Reply) → AnswersUpgrade files words signature net certificate cycles reply → PrintsTheSamePairs files signature net certificate cycles reply
+upgrade_says files words signature net certificate cycles reply answers =
+    let J : Job → Type 0 = λ job. JobAnswer (Some files) job (Ok reply) in
+    let answer = answers.answer in
+    let up = job_upgrades files signature net certificate cycles reply (subst J (one_job words answer.0 (Over signature (Upgrade net certificate cycles)) answer.1 answers.spelled) answer.2) in
+    let s = up.setting in
+    let c = up.circuit in
+    let h = up.held in
+    let labels = certificate_labels s c in
+    let short = up.cert_read.1 in
+    let kept = keeps_pairs s.k c.net labels (of_numbers net h.bytes h.text cycles s c h.of) up.cert up.is.0 (omega (arith, short)) up.is.1 in
+    let P : List ℕ → Type 0 = λ t. CertificateOf s.k c.net labels t (Ok kept.1) in
+    record {
+      setting = s;
+      circuit = c;
+      text = up.cert;
+      held = record { bytes = h.bytes; signature_read = h.signature_read; is_setting = h.of.is_setting; netlist = h.text; net_read = h.net_read; is_circuit = h.of.is_circuit; certificate_read = up.cert_read };
+      said = kept.0;
+      read = kept.2;
+      again = kept.1;
+      printed = subst P (sym (ap (λ (r : Reply). r.text) up.is.2)) kept.3;
+      alike = kept.4;
     }
 
 module _ (files others : Files) (signature net certificate upgraded : Word) (cycles : ℕ) (one : HoldOneJob files others signature net) where

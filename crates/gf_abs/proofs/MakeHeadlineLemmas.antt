@@ -1,5 +1,6 @@
 -- What `make` prints is read back, is bound to its signature, and computes what its kind does.
-use Rattle.std.proofs.Common.{◌≡◌, ◌∙◌, ap, sym, refl, subst, ℕ, List, Some, Result, Ok, if◌then◌else◌}
+use Rattle.std.proofs.Common.{◌≡◌, ◌∙◌, ap, sym, refl, subst, ℕ, ◌≤◌, List, length, Some, Result, Ok, if◌then◌else◌}
+use Rattle.lists.specs.Limits.{most_bytes}
 use Rattle.job_io.specs.Shelf.{Files}
 use Rattle.circuit_model.specs.JobOfBinding.{job_with}
 use Rattle.circuit_model.specs.Out.{IsOut}
@@ -31,6 +32,7 @@ use Rattle.answer_makers.specs.Made.{ComputesKind, HoldKind, HoldMade}
 use Rattle.answer_core.specs.Reply.{Reply}
 use Rattle.gf_abs.proofs.AnswerDetermined.{read_determined}
 use Rattle.answer_makers.proofs.MadeLemmas.{IsMadeRight, made_right}
+use Rattle.answer_makers.proofs.MadeTextLemmas.{text_fits}
 
 -- ---- a net that is read back
 
@@ -75,6 +77,8 @@ module _ (files others : Files) (signature net : Word) (kind : Kind) (reply : Re
       let alike = bound_alike list back.other right.sound (net_sound (Blif (written list)) back.other again) right.plain back.plain back.same setting.signature.words setting.signature.feeds right.binding right.binds in
       let second : BoundNet = record { net = back.other; binding = alike.binding } in
       let print : reply.text ≡ written list = ap (λ (r : Reply). r.text) printed in
+      let F : List ℕ → Type 0 = λ t. length t ≤ most_bytes in
+      let fits : length reply.text ≤ most_bytes = subst F (sym print) (text_fits text setting (signed, is, are) kind list form is_made) in
       let N : NetlistText → Type 0 = λ t. BoundNetOf setting.signature t (Ok second) in
       record {
         setting = setting;
@@ -85,7 +89,7 @@ module _ (files others : Files) (signature net : Word) (kind : Kind) (reply : Re
           bytes = hold.bytes;
           signature_read = hold.signature_too;
           text = reply.text;
-          net_read = hold.net_read;
+          net_read = (hold.net_held, fits);
           is_job = record { is_setting = subst S same_bytes (signed, is, are); bound = second; is_bound = subst N (ap Blif (sym print) ∙ sym (blif_text net reply.text hold.name)) (back.other, again, (alike.binding, alike.bound, refl)); is_job = refl };
         };
         computes = kept setting (record { net = list; binding = right.binding }) second right.cycles alike.outputs kind right.computes;

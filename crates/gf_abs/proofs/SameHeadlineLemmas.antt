@@ -88,7 +88,7 @@ module _ (setting : SettingValue) (circuit other : BoundNet) (taken : IsTaken se
   are_alike = alike setting circuit other setting.signature.words (roles setting circuit taken) (roles setting other more)
 
   -- they have the same inputs
-  there_too : (xs : List ℕ) → IsInput (taken_circuit setting circuit) xs → IsInput (taken_circuit setting other) xs
+  pub there_too : (xs : List ℕ) → IsInput (taken_circuit setting circuit) xs → IsInput (taken_circuit setting other) xs
   there_too xs is = record { long = is.long ∙ alike_long (taken_circuit setting circuit) (taken_circuit setting other) are_alike; elements = is.elements }
 
   here_too : (xs : List ℕ) → IsInput (taken_circuit setting other) xs → IsInput (taken_circuit setting circuit) xs

@@ -2,13 +2,15 @@
 -- Abstraction from Bit-Level Circuits Using Gröbner Bases, DAC 2014; certificates are this project's own.
 use Rattle.std.specs.Prelude.{◌≡◌, ◌≢◌, ℕ, ◌*◌, ◌≤◌, List, [], ◌++◌, codes, length, Some, Ok}
 use Rattle.std.specs.Fmt.{decimal}
+use Rattle.lists.specs.Limits.{most_bytes}
 use Rattle.job_io.specs.Shelf.{Files}
 use Rattle.gf_basis.specs.declared.bases.Basis.{Basis}
 use Rattle.net_words.specs.Binding.{BoundNet}
 use Rattle.poly_mixed.specs.Polynomial.{Terms}
 use Rattle.circuit_model.specs.Circuit.{Circuit}
-use Rattle.cert_check.specs.Certificate.{Certificate, CertificateBy}
+use Rattle.cert_check.specs.Certificate.{Certificate, CertificateBy, CertificateOf}
 use Rattle.cert_check.specs.Verdict.{AsksAtMost, IsRunningSum}
+use Rattle.cert_make.specs.laws.ReadBack.{AreAlike}
 use Rattle.job_words.specs.Command.{Certify, Upgrade, Verify, Over, IsSpelled}
 use Rattle.job_words.specs.Operands.{Word}
 use Rattle.job_input.specs.CircuitOf.{CircuitOfText}
@@ -87,6 +89,40 @@ pub record HoldCertificate (files : Files) (signature net certificate : Word) (c
   pub is_circuit : CircuitOfText setting.signature (by_ending net netlist) cycles (Ok circuit)
   pub certificate_read : Read (Some files) certificate (Ok text)
 
+-- the held files of these names give the setting, and the circuit of so many cycles after the first
+pub record GiveCircuit (files : Files) (signature net : Word) (cycles : ℕ) (setting : SettingValue) (circuit : BoundNet) : Type 0 where
+  pub bytes : List ℕ
+  pub signature_read : Read (Some files) signature (Ok bytes)
+  pub is_setting : SettingOf bytes (Ok setting)
+  pub netlist : List ℕ
+  pub net_read : Read (Some files) net (Ok netlist)
+  pub is_circuit : CircuitOfText setting.signature (by_ending net netlist) cycles (Ok circuit)
+
+-- the held files give a job and its circuit, and the reply is a certificate over the circuit whose claim is the job's output:
+-- reduced, in the job's words alone, with the output's values
+pub record PrintsHeldClaim (files : Files) (signature net : Word) (cycles : ℕ) (reply : Reply) : Type 0 where
+  pub setting : SettingValue
+  pub job : Circuit
+  pub circuit : BoundNet
+  pub held : AreHeld files signature net cycles setting job
+  pub given : GiveCircuit files signature net cycles setting circuit
+  pub said : Certificate
+  pub read : CertificateOf setting.k circuit.net (certificate_labels setting circuit) reply.text (Ok said)
+  pub in_words : IsInItsWords setting job said.claim
+  pub values : HasOutput setting job said.claim
+
+-- the held files give a circuit and a certificate, and the reply is a certificate with the same claim and the same pairs
+pub record PrintsTheSamePairs (files : Files) (signature net certificate : Word) (cycles : ℕ) (reply : Reply) : Type 0 where
+  pub setting : SettingValue
+  pub circuit : BoundNet
+  pub text : List ℕ
+  pub held : HoldCertificate files signature net certificate cycles setting circuit text
+  pub said : Certificate
+  pub read : CertificateOf setting.k circuit.net (certificate_labels setting circuit) text (Ok said)
+  pub again : Certificate
+  pub printed : CertificateOf setting.k circuit.net (certificate_labels setting circuit) reply.text (Ok again)
+  pub alike : AreAlike said again
+
 -- the text is read whole as a certificate, where no running sum has more than `bound` terms, and the last one is this polynomial
 pub record HasLastSum (setting : SettingValue) (circuit : BoundNet) (bound : ℕ) (text : List ℕ) (sum : Terms) : Type 0 where
   pub bases : List Basis
@@ -134,6 +170,16 @@ HasTheSameReply files signature net certificate cycles reply =
 abbrev pub EachVerifyReply : (Files → (signature net certificate : Word) → (cycles : ℕ) → Reply → Type 0) → Type 0
 EachVerifyReply Says = (files : Files) (words : List Word) (signature net certificate : Word) (cycles : ℕ) (reply : Reply)
     → AnswersVerify files words signature net certificate cycles reply → Says files signature net certificate cycles reply
+
+-- of each reply of `certify` that fits a file
+abbrev pub EachCertifyReply : (Files → (signature net : Word) → (cycles : ℕ) → Reply → Type 0) → Type 0
+EachCertifyReply Says = (files : Files) (words : List Word) (signature net : Word) (bound cycles : ℕ) (reply : Reply)
+    → AnswersCertify files words signature net bound cycles reply → length reply.text ≤ most_bytes → Says files signature net cycles reply
+
+-- of each reply of `upgrade`
+abbrev pub EachUpgradeReply : (Files → (signature net certificate : Word) → (cycles : ℕ) → Reply → Type 0) → Type 0
+EachUpgradeReply Says = (files : Files) (words : List Word) (signature net certificate : Word) (cycles : ℕ) (reply : Reply)
+    → AnswersUpgrade files words signature net certificate cycles reply → Says files signature net certificate cycles reply
 
 -- of all words that spell `verify`
 abbrev pub EachVerify : (Files → List Word → (signature net certificate : Word) → (bound cycles : ℕ) → Type 0) → Type 0

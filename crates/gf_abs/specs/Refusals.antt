@@ -1,6 +1,6 @@
 -- When a command is refused, and when it stops at a stage: what it reads, step by step, of which the first fault counts, and then the
 -- first of its stages over the bound. Source: this project's own, docs/COMMANDS.md.
-use Rattle.std.specs.Prelude.{◌≡◌, ◌⊎◌, ◌↔◌, ℕ, Bool, List, [], length, Option, Some, Result, Ok, Err}
+use Rattle.std.specs.Prelude.{◌≡◌, ◌⊎◌, ◌↔◌, ℕ, ◌*◌, ◌^◌, Bool, List, [], length, Option, Some, Result, Ok, Err}
 use Rattle.outcome.specs.Outcome.{Outcome, ◌>>=◌, Exactly, Within}
 use Rattle.job_io.specs.Shelf.{Files}
 use Rattle.gf_basis.specs.declared.bases.Basis.{Basis}
@@ -33,6 +33,7 @@ use Rattle.job_input.specs.SettingOf.{SettingWith}
 use Rattle.job_input.specs.SettingValue.{SettingValue}
 use Rattle.job_input.specs.SignedIn.{SignedIn}
 use Rattle.job_input.specs.SpecificationIn.{SpecificationIn}
+use Rattle.job_input.specs.TableIn.{TableIn}
 use Rattle.make_trial.specs.Trial.{product_terms, trial_circuit, trial_setting}
 use Rattle.answer_core.specs.Abstraction.{abstract_stages, bits_stages, taken_circuit}
 use Rattle.answer_core.specs.Reply.{Reply}
@@ -42,6 +43,7 @@ use Rattle.answer_certificates.specs.Certificates.{CertifiedIn, HaveDuals, certi
 use Rattle.answer_composition.specs.Compose.{ListsOf, compose_fault, hierarchy_with, stage_called}
 use Rattle.answer_polynomials.specs.Same.{same_stages}
 use Rattle.answer_polynomials.specs.Values.{ValuesOf}
+use Rattle.answer_tables.specs.Lift.{SmallEnough, table_words}
 use Rattle.gf_abs.specs.Answer.{Answer}
 
 -- ---- what a command reads
@@ -86,6 +88,18 @@ BothGiven held net other cycles simple setting = do
   circuit ← SimplerUnrolledIn net netlist cycles simple
   more ← SimplerUnrolledIn other second cycles simple
   Exactly (circuit, more)
+
+-- `table` asks for a small signature, and then reads a netlist and unrolls its cycles
+abbrev pub TableGiven : Option Files → (net : Word) → (cycles : ℕ) → SettingValue → Outcome Fault BoundNet
+TableGiven held net cycles setting = do
+  small ← SmallEnough setting
+  CircuitIn held setting.signature net cycles
+
+-- `lift` asks for a small signature, and then reads a table
+abbrev pub LiftGiven : Option Files → (file : Word) → SettingValue → Outcome Fault (List ℕ)
+LiftGiven held file setting = do
+  small ← SmallEnough setting
+  TableIn held setting.k (2 ^ (setting.k * table_words setting)) file
 
 -- ---- refusals and stops
 
@@ -267,6 +281,16 @@ OfVerify Says = (held : Option Files) (words : List Word) (signature net cert : 
 abbrev pub OfCompose : (Option Files → List Word → (signature net : Word) → (bound : ℕ) → Type 0) → Type 0
 OfCompose Says = (held : Option Files) (words : List Word) (signature net : Word) (bound : ℕ)
     → IsSpelled words (Over signature (Compose net bound)) → Says held words signature net bound
+
+-- `table`
+abbrev pub OfTable : (Option Files → List Word → (signature net : Word) → (cycles : ℕ) → Type 0) → Type 0
+OfTable Says = (held : Option Files) (words : List Word) (signature net : Word) (cycles : ℕ)
+    → IsSpelled words (Over signature (Table net cycles)) → Says held words signature net cycles
+
+-- `lift`
+abbrev pub OfLift : (Option Files → List Word → (signature file : Word) → Type 0) → Type 0
+OfLift Says = (held : Option Files) (words : List Word) (signature file : Word)
+    → IsSpelled words (Over signature (Lift file)) → Says held words signature file
 
 -- `eval`
 abbrev pub OfEval : (Option Files → List Word → (signature net : Word) → (values : List Word) → (cycles : ℕ) → Type 0) → Type 0

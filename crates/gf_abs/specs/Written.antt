@@ -7,7 +7,7 @@ use Rattle.job_words.specs.declared.fault.Fault.{Fault}
 use Rattle.job_words.specs.Fault.{fault_line, fault_status}
 use Rattle.job_words.specs.Operands.{Word}
 use Rattle.job_words.specs.Stop.{IsMiss}
-use Rattle.answer_core.specs.Replies.{Rises}
+use Rattle.job_input.specs.Reads.{Rises}
 use Rattle.answer_core.specs.Reply.{Reply}
 use Rattle.gf_abs.specs.Answer.{Answer}
 

@@ -17,7 +17,7 @@ ghost use Rattle.answer_core.specs.Abstraction.{taken_circuit};
 ghost use Rattle.answer_core.specs.Printed.{IsTaken, AreHeld, PrintsHeld, PrintsHeldInBits, IsInItsBits, IsInItsWords, HasOutput, HasOutputInBits};
 ghost use Rattle.answer_core.specs.Reply.{Reply};
 ghost use Rattle.gf_abs.specs.Answer.{Answer};
-ghost use Rattle.gf_abs.specs.CertificateHeadline.{AnswersTermsLeft, CertificatesAreAccepted, EachVerify, EachVerifyReply, HoldLastSum, HoldTermsLeft, IsAccepted, IsRejected, PrintsHeldProof, UpgradesHaveTheSameReply};
+ghost use Rattle.gf_abs.specs.CertificateHeadline.{AnswersTermsLeft, CertificatesAreAccepted, EachCertifyReply, EachUpgradeReply, EachVerify, EachVerifyReply, HoldLastSum, HoldTermsLeft, IsAccepted, IsRejected, PrintsHeldClaim, PrintsHeldProof, PrintsTheSamePairs, UpgradesHaveTheSameReply};
 ghost use Rattle.gf_abs.specs.CheckHeadline.{AnswersCheck, ChecksHeld, EachCheckReply, PrintsHeldAcceptance, PrintsHeldRejection};
 ghost use Rattle.gf_abs.specs.ComposeHeadline.{ComposePrintsAsAbstract, EachComposeReply};
 ghost use Rattle.gf_abs.specs.EvalHeadline.{EachEvalReply, PrintsHeldElement};
@@ -186,6 +186,18 @@ pub fn verify_answers_by_the_last_sum()
 /// bound that is at least four times as large, where it is a file: it has at most 67,108,864 bytes.
 pub fn what_certify_prints_is_accepted()
     ensures { CertificatesAreAccepted }
+{}
+
+/// What `certify` prints, where it fits a file, is read as a certificate over the circuit of the files, and its claim is the polynomial
+/// of the output of their job: reduced, in the job's words alone, and at each point with the output word's element.
+pub fn certify_claims_the_output()
+    ensures { EachCertifyReply PrintsHeldClaim }
+{}
+
+/// What `upgrade` prints is read as a certificate over the circuit of the files, with the claim and the pairs that the certificate
+/// in its file says.
+pub fn upgrade_keeps_claim_and_pairs()
+    ensures { EachUpgradeReply PrintsTheSamePairs }
 {}
 
 /// What `upgrade` prints has the reply of the certificate itself, over the same signature and netlist and whatever the bounds, where

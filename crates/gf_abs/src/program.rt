@@ -2,7 +2,7 @@
 ghost use Rattle.std.specs.Prelude.{◌≡◌, ◌⊎◌, ◌≤◌, Some, map, string_bytes};
 ghost use Rattle.std.specs.Io.KnownBytes.{Keeps};
 ghost use Rattle.job_io.specs.SureShelf.{sure_files, sure_misses};
-ghost use Rattle.answer_core.specs.Replies.{Rises};
+ghost use Rattle.job_input.specs.Reads.{Rises};
 ghost use Rattle.gf_abs.specs.Answer.{Answer};
 ghost use Rattle.gf_abs.specs.RunHeadline.{AbstractPrints, BitsPrints, CertifyPrints, CheckAccepts, CheckRejects, ComposePrints, EvalPrints, IsoPrints, LiftPrints, MakePrints, SameAgrees, SameDiffers, TablePrints, TrialPrints, UpgradePrints, VerifyLeavesTerms, VerifyProves};
 ghost use Rattle.gf_abs.specs.Written.{IsText, IsWrittenUnlessFailed, OutsideFailed, WritesWhole};
@@ -54,7 +54,7 @@ pub fn run<S: Shelf, K: Sink>(alloc: Global, words: &[String], shelf: &mut S, si
     write_answer(alloc, words, shelf, sink)
 }
 
-/// The same over a shelf and a sink that never fail: the status is that of the answer, or out of memory.
+/// All that the program does, over a shelf and a sink that never fail: the status is that of the answer, or out of memory.
 pub fn run_surely(alloc: Global, words: &[String], shelf: &mut SureShelf, sink: &mut SureSink) -> u8
     ensures answers { (result ≡ 5) ⊎ ((text : _) × IsText (Answer (map string_bytes words.now) (Some (sure_files shelf.old)))
         (Rises sure_misses shelf.old shelf.new) result text) }

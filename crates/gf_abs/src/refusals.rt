@@ -1,11 +1,11 @@
 //! When commands are refused, when they stop, and when they have an answer. These functions do nothing: their contracts are proved of the definitions alone.
-ghost use Rattle.std.specs.Prelude.{◌≡◌, ◌↔◌, Err};
+ghost use Rattle.std.specs.Prelude.{◌≡◌, ◌↔◌, Err, false};
 ghost use Rattle.job_words.specs.Fault.{fault_status};
 ghost use Rattle.job_words.specs.declared.fault.Fault.{Fault};
 ghost use Rattle.job_words.specs.declared.fault.Fault.TheVariants.{Stage};
 ghost use Rattle.job_words.specs.declared.stage_fault.StageFault.{StageFault};
 ghost use Rattle.gf_abs.specs.Answer.{ActionAnswer, Answer};
-ghost use Rattle.gf_abs.specs.Refusals.{BothGiven, CertificateGiven, CircuitGiven, EvalGiven, HasAnswer, HasNoStages, HierarchyGiven, IsAbstractOver, IsBitsOver, IsCertifyOver, IsCheckOver, IsCompositionOver, IsRefusedInOrder, IsSameOver, IsSumOver, IsTrialRefusedInOrder, OfAbstract, OfActions, OfBits, OfCertify, OfCheck, OfCompose, OfEval, OfSame, OfTrial, OfVerify, Reads, Refuses, SimplerGiven, SpecifiedGiven};
+ghost use Rattle.gf_abs.specs.Refusals.{BothGiven, CertificateGiven, CircuitGiven, EvalGiven, HasAnswer, HasNoStages, HierarchyGiven, IsAbstractOver, IsBitsOver, IsCertifyOver, IsCheckOver, IsCompositionOver, IsRefusedInOrder, IsSameOver, IsSumOver, IsTrialRefusedInOrder, LiftGiven, OfAbstract, OfActions, OfBits, OfCertify, OfCheck, OfCompose, OfEval, OfLift, OfSame, OfTable, OfTrial, OfVerify, Reads, Refuses, SimplerGiven, SpecifiedGiven, TableGiven};
 
 /// A fault with status 3 is that of a stage, whatever the command.
 pub fn status_3_is_of_a_stage()
@@ -66,10 +66,14 @@ pub fn each_command_is_refused_in_order()
     ensures status { OfActions (λ held words signature action fault. HasNoStages action → Answer words held (Err fault) → fault_status fault ≡ 2) }
 {}
 
-/// Where nothing that `bits`, `abstract` or `eval` reads is refused, it has an answer: a polynomial, or the first stage over the bound;
-/// of `eval` an output. So it is with `--simplify` too.
+/// Where nothing that `bits`, `abstract`, `same`, `eval`, `table` or `lift` reads is refused, it has an answer: a polynomial, or the first
+/// stage over the bound; of `same` that the outputs are the same, or the input at which they are told apart, or a stage; of `eval` an
+/// output, of `table` a table, of `lift` a polynomial. So it is with `--simplify` too.
 pub fn some_answer_over_a_circuit()
     ensures in_bits { OfBits (λ held words signature net bound cycles simple. Reads held signature (CircuitGiven held net cycles) → HasAnswer words held) }
     ensures in_words { OfAbstract (λ held words signature net bound cycles simple. Reads held signature (CircuitGiven held net cycles) → HasAnswer words held) }
+    ensures of_two { OfSame (λ held words signature net other bound cycles simple. Reads held signature (BothGiven held net other cycles false) → HasAnswer words held) }
+    ensures of_table { OfTable (λ held words signature net cycles. Reads held signature (TableGiven held net cycles) → HasAnswer words held) }
+    ensures of_lift { OfLift (λ held words signature file. Reads held signature (LiftGiven held file) → HasAnswer words held) }
     ensures in_values { OfEval (λ held words signature net values cycles. Reads held signature (EvalGiven held net values cycles) → HasAnswer words held) }
 {}
