@@ -1,0 +1,2 @@
+pub mod SoundModels
+pub mod Judged
