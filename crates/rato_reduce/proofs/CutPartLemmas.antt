@@ -1,5 +1,5 @@
 -- What loops take from a cut, and what they add to it.
-use Rattle.std.proofs.Common.{◌≡◌, ℕ, ◌+◌, reverse, Bool, true, false, cond, not, List, [], ◌∷◌, ◌++◌, map, bit_xor, refl, sym, ◌∙◌, ap, subst, append-nil}
+use Rattle.std.proofs.Common.{◌≡◌, ℕ, reverse, Bool, true, false, cond, not, List, [], ◌∷◌, ◌++◌, map, bit_xor, refl, sym, ◌∙◌, ap, subst, append-nil}
 use lib.Bits.{xor_zero_r, xor_comm}
 use Rattle.std.specs.List.{AllByRecursion}
 use Rattle.std.proofs.lemmas.List.{append_assoc, map-append, reverse-append}

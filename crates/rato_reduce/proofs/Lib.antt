@@ -13,3 +13,6 @@ mod CutPartLemmas
 mod ConstantLemmas
 mod ProductLemmas
 mod RetainedLemmas
+mod AddedLemmas
+mod BucketLemmas
+mod SilentLemmas

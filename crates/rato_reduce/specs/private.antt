@@ -1,3 +1,4 @@
 pub mod CutKey
 pub mod CutTerms
+pub mod Buckets
 pub mod EntryList

@@ -13,6 +13,7 @@ ghost use Rattle.rato_reduce.specs.private.CutTerms.{of_bits, term_of, ends_up_t
 ghost use Rattle.rato_reduce.specs.Monomials.{monomials};
 
 use crate::bit_term::BitTerm;
+use crate::buckets::Buckets;
 use crate::entries::Entries;
 use crate::key::{Key, place_of};
 use crate::ranks::Ranks;
@@ -207,6 +208,15 @@ impl Cut {
         self.map.add_terms(self.alloc, &mut sum)?;
         Ok(sum)
     }
+
+    /// The same polynomial in buckets.
+    pub fn into_buckets(self) -> Result<Buckets, AllocError>
+        ensures { IfOk result (λ q. q.terms ≡ self.terms) }
+    {
+        let mut sum = constant_buckets(self.alloc, self.places, self.constant)?;
+        self.map.put_into(&mut sum)?;
+        Ok(sum)
+    }
 }
 
 // The polynomial of a term without bits, which has none where the coefficient is 0.
@@ -217,6 +227,17 @@ fn constant_poly(alloc: Global, c: u64) -> Result<Poly, AllocError>
     if c != 0 {
         let mono = Mono::new(alloc, &[], &[0; 8])?;
         sum.add_term(mono, c)?;
+    }
+    Ok(sum)
+}
+
+// The same in buckets.
+fn constant_buckets(alloc: Global, places: Vec<u32>, c: u64) -> Result<Buckets, AllocError>
+    ensures { IfOk result (λ q. q.terms ≡ with_coefficient (of_bits []) c []) }
+{
+    let mut sum = Buckets::new(alloc, places);
+    if c != 0 {
+        sum.add(Ranks::none(alloc), c)?;
     }
     Ok(sum)
 }

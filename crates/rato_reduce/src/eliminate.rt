@@ -25,8 +25,12 @@ use net_words::Combinational;
 use poly_mixed::{Generator, Steps, exclusive_form};
 use std::alloc::{AllocError, Global};
 
-// The ranks of a gate's inputs.
-fn input_ranks(alloc: Global, circuit: &Combinational, gate: &Gate) -> Result<Vec<u32>, AllocError>
+/// The ranks of a gate's inputs.
+pub fn input_ranks(
+    alloc: Global,
+    circuit: &Combinational,
+    gate: &Gate,
+) -> Result<Vec<u32>, AllocError>
     requires sound { IsSound circuit.now.net }
     requires gate { Has circuit.now.net.gates gate.now }
     ensures { IfOk result (λ list. list.items ≡ ranks_of_inputs circuit.now gate.now) }

@@ -8,6 +8,7 @@ ghost use Rattle.rato_reduce.specs.private.CutKey.{key_cmp};
 ghost use Rattle.rato_reduce.specs.private.CutTerms.{ends_up_to, term_of, IsBitTerm};
 ghost use Rattle.rato_reduce.specs.private.EntryList.{only_or};
 
+use crate::buckets::Buckets;
 use crate::key::Key;
 use poly_mixed::{Mono, Poly};
 use std::alloc::{AllocError, Global};
@@ -95,6 +96,29 @@ impl Entries {
         }
         Ok(())
     }
+
+    /// Adds the terms of all to buckets. After running out of memory they are not used again.
+    pub fn put_into(&self, sum: &mut Buckets) -> Result<(), AllocError>
+        requires { AllByRecursion IsBitTerm (each_of term_of self.now.entries) }
+        ensures { OnOk result (sum.new.terms ≡ plus text_cmp sum.old.terms (each_of term_of self.now.entries)) }
+    {
+        if let Some((key, c)) = &self.one {
+            return put_term(sum, key, *c);
+        }
+        for (key, c) in &self.map {
+            put_term(sum, key, *c)?;
+        }
+        Ok(())
+    }
+}
+
+// Adds the term of an entry to buckets.
+fn put_term(sum: &mut Buckets, key: &Key, c: u64) -> Result<(), AllocError>
+    requires { IsBitTerm (term_of (key.now, c)) }
+    ensures { OnOk result (sum.new.terms ≡ plus text_cmp sum.old.terms (term_of (key.now, c) ∷ [])) }
+{
+    sum.add(key.bits().copied()?, c)?;
+    Ok(())
 }
 
 // Adds the term of an entry to a polynomial.

@@ -68,7 +68,8 @@ pub fn place_of(places: &[u32], rank: u32) -> u32
     }
 }
 
-fn first_place(places: &[u32], ranks: &[u32]) -> u32
+/// The first of the places of ranks.
+pub fn first_place(places: &[u32], ranks: &[u32]) -> u32
     ensures { result ≡ first_from places.now 4294967295 ranks.now }
 {
     let mut first = u32::MAX;
@@ -81,7 +82,8 @@ fn first_place(places: &[u32], ranks: &[u32]) -> u32
     first
 }
 
-fn hash(ranks: &[u32]) -> u64
+/// A hash of ranks.
+pub fn hash(ranks: &[u32]) -> u64
     ensures { result ≡ hash_from 0 ranks.now }
 {
     let mut hash = 0;

@@ -3,13 +3,17 @@
 #![tactic(auto)]
 
 mod bit_term;
+mod bucket;
+mod buckets;
 mod cut;
 mod eliminate;
 mod entries;
 mod first_cut;
+mod in_buckets;
 mod key;
 mod monomials;
 mod ranks;
 mod reduce;
+mod stop;
 
 pub use reduce::reduce_bits;

@@ -11,6 +11,7 @@ ghost use Rattle.rato_reduce.specs.Recorded.{AreAllRecorded};
 use crate::cut::Cut;
 use crate::eliminate::eliminate;
 use crate::first_cut::{first_cut, places};
+use crate::in_buckets::reduce_in_buckets;
 use circuit_model::output_nets;
 use gf_basis::Basis;
 use gf_field::Field;
@@ -49,7 +50,8 @@ fn check_size(cut: &Cut, bound: u32, number: u32) -> Result<(), ReduceFault>
 /// to the least (Lv, Kalla, Enescu, IEEE TCAD 2013, in an order of this project's own). `output` is the basis of the
 /// output word, a basis of this field, and each word has k bits. For each gate whose output stands in the polynomial the
 /// recorder gets one pair: the net, and the terms with it, without it. `TooManyTerms` comes exactly at the first cut of
-/// more than `bound` terms, with that number.
+/// more than `bound` terms, with that number. Where the recorder does not tell its steps, terms in buckets are tried first,
+/// which are faster and say only that no cut is over the bound.
 pub fn reduce_bits<F: Field, T: Steps>(
     alloc: Global,
     field: &F,
@@ -67,6 +69,9 @@ pub fn reduce_bits<F: Field, T: Steps>(
 {
     let net = circuit.net();
     let order = elimination(alloc, net)?;
+    if let Some(found) = reduce_in_buckets(alloc, field, circuit, output, &order, bound, &*steps)? {
+        return Ok(found);
+    }
     let list = output_nets(alloc, circuit.binding())?;
     let places = places(alloc, circuit, &order)?;
     let mut cut = first_cut(alloc, field, circuit, output, &list, places)?;

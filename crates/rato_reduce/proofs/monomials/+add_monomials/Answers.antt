@@ -1,4 +1,4 @@
-use Rattle.std.proofs.Common.{◌-◌, length, arith, rules}
+use Rattle.std.proofs.Common.{length, arith, rules}
 use Rattle.lists.specs.laws.PowerLaws.{halved_subsets}
 use Rattle.lists.specs.laws.TestLaws.{some_if_not_zero}
 use Rattle.rato_reduce.proofs.monomials.+add_monomials.Goals as goal

@@ -28,17 +28,17 @@ pub places-requires : goal.places-requires
 places-requires g c =
     let P : List ℕ → Type 0 = IsElimination c.args.circuit.now.net in
     let E : NetList → Type 0 = λ net. IsElimination net c.in_ok-order.order.items in
-    subst P (sym c.deref.ensures.value) (subst E c.net-net.ensures.net c.in_ok-order.ensures)
+    subst P (sym c.deref-2.ensures.value) (subst E c.net-net.ensures.net c.in_ok-order.ensures)
 
 pub first_cut-requires-clause-long : goal.first_cut-requires-clause-long
 first_cut-requires-clause-long g c =
     let bound = c.binding.ensures.is_bound in
-    ap length (c.deref-2.ensures.value ∙ c.in_ok-list.ensures) ∙ (ap (λ (b : Binding). length (output_bits b.words)) c.binding.ensures.binding ∙ output_long c.args.circuit.now.net c.args.circuit.now.binding bound ∙ c.requires.bits)
+    ap length (c.deref-3.ensures.value ∙ c.in_ok-list.ensures) ∙ (ap (λ (b : Binding). length (output_bits b.words)) c.binding.ensures.binding ∙ output_long c.args.circuit.now.net c.args.circuit.now.binding bound ∙ c.requires.bits)
 
 pub first_cut-requires-clause-inside : goal.first_cut-requires-clause-inside
 first_cut-requires-clause-inside g c n has =
     let bound = c.binding.ensures.is_bound in
-    let list : c.deref-2.result.now ≡ output_bits c.args.circuit.now.binding.words = c.deref-2.ensures.value ∙ (c.in_ok-list.ensures ∙ ap (λ (b : Binding). output_bits b.words) c.binding.ensures.binding) in
+    let list : c.deref-3.result.now ≡ output_bits c.args.circuit.now.binding.words = c.deref-3.ensures.value ∙ (c.in_ok-list.ensures ∙ ap (λ (b : Binding). output_bits b.words) c.binding.ensures.binding) in
     let P : List ℕ → Type 0 = λ xs. Has xs n in
     bound.outputs n (subst P list has)
 
@@ -51,8 +51,8 @@ returns-in_err-check_size-clause-fault g c =
     let order = c.in_ok-order.order.items in
     let E : NetList → Type 0 = λ net. IsElimination net order in
     let is = subst E c.net-net.ensures.net c.in_ok-order.ensures in
-    let list : c.deref-2.result.now ≡ output_bits circuit.binding.words = c.deref-2.ensures.value ∙ (c.in_ok-list.ensures ∙ ap (λ (b : Binding). output_bits b.words) c.binding.ensures.binding) in
-    let first = first_now degree mul circuit basis order is c.deref-2.result.now c.in_ok-cut.cut.terms c.binding.ensures.is_bound c.requires.bits c.requires.basis.elements.size list c.in_ok-cut.ensures in
+    let list : c.deref-3.result.now ≡ output_bits circuit.binding.words = c.deref-3.ensures.value ∙ (c.in_ok-list.ensures ∙ ap (λ (b : Binding). output_bits b.words) c.binding.ensures.binding) in
+    let first = first_now degree mul circuit basis order is c.deref-3.result.now c.in_ok-cut.cut.terms c.binding.ensures.is_bound c.requires.bits c.requires.basis.elements.size list c.in_ok-cut.ensures in
     let fault : IsRefusal degree mul (cut_listing (length circuit.net.gates + 1) (BoundCut circuit basis)) c.args.bound c.in_err-check_size.field-0.0 =
     just degree mul (BoundCut circuit basis) c.args.bound (length circuit.net.gates + 1) 0 c.in_ok-cut.cut.terms c.in_err-check_size.field-0.0 (omega arith) (none_before degree mul (BoundCut circuit basis) c.args.bound)
     (is_cut degree mul circuit basis order is 0 c.in_ok-cut.cut.terms first) c.in_err-check_size.ensures.over.1 c.in_err-check_size.ensures.over.0 in
@@ -67,8 +67,8 @@ loop-t-init g c =
     let order = c.in_ok-order.order.items in
     let E : NetList → Type 0 = λ net. IsElimination net order in
     let is = subst E c.net-net.ensures.net c.in_ok-order.ensures in
-    let list : c.deref-2.result.now ≡ output_bits circuit.binding.words = c.deref-2.ensures.value ∙ (c.in_ok-list.ensures ∙ ap (λ (b : Binding). output_bits b.words) c.binding.ensures.binding) in
-    let first = first_now degree mul circuit basis order is c.deref-2.result.now c.in_ok-cut.cut.terms c.binding.ensures.is_bound c.requires.bits c.requires.basis.elements.size list c.in_ok-cut.ensures in
+    let list : c.deref-3.result.now ≡ output_bits circuit.binding.words = c.deref-3.ensures.value ∙ (c.in_ok-list.ensures ∙ ap (λ (b : Binding). output_bits b.words) c.binding.ensures.binding) in
+    let first = first_now degree mul circuit basis order is c.deref-3.result.now c.in_ok-cut.cut.terms c.binding.ensures.is_bound c.requires.bits c.requires.basis.elements.size list c.in_ok-cut.ensures in
     record {
       is = first;
       within = one_more degree mul (BoundCut circuit basis) c.args.bound 0 c.in_ok-cut.cut.terms (none_before degree mul (BoundCut circuit basis) c.args.bound) (is_cut degree mul circuit basis order is 0 c.in_ok-cut.cut.terms first) c.in_ok-check_size.ensures.within;

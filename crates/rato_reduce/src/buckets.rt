@@ -1,0 +1,271 @@
+//! Terms in lists by the level of their bits.
+ghost use Rattle.std.specs.Prelude.{◌≡◌, ◌≢◌, ◌+◌, ◌++◌, ◌∷◌, ◌<◌, ◌≤◌, ℕ, [], length, IsTrue, IfOk, IfSome, IfNone, OnOk, OnErr};
+ghost use Rattle.std.specs.List.{AllByRecursion};
+ghost use Rattle.std.specs.List.Sorted.{IsStrictlySortedBy};
+ghost use Rattle.std.specs.Ordering.{nat_cmp};
+ghost use Rattle.poly_mixed.specs.Cofactor.{cofactors, lacking};
+ghost use Rattle.poly_mixed.specs.Monomial.{text_cmp};
+ghost use Rattle.poly_mixed.specs.Sum.{plus, plus_term};
+ghost use Rattle.rato_reduce.specs.private.Buckets.{joined, level_at, AreOut, AreUpTo, HasTermAt, IsCounted, IsMerged, IsMergedAt, StayLevelled};
+ghost use Rattle.rato_reduce.specs.private.CutTerms.{of_bits, products, IsBitTerm};
+
+use crate::bit_term::{BitTerm, add_terms};
+use crate::bucket::Bucket;
+use crate::key::{first_place, place_of};
+use crate::ranks::Ranks;
+use crate::stop::Stop;
+use poly_mixed::Poly;
+use std::alloc::{AllocError, Global};
+use std::marker::Model;
+
+// So many times all lists may be merged.
+const MERGES: u32 = 64;
+
+/// A polynomial in bits, whose terms stand in lists by the greatest level of their bits: those with the bit that is eliminated
+/// first stand in the last list. `places` has the place of each rank in the order of elimination. Equal terms stand apart until
+/// their list is taken or merged; the count is that of all, and once it is at its end it says nothing.
+#[derive(Drop)]
+pub struct Buckets {
+    places: Vec<u32>,
+    list: Vec<Bucket>,
+    count: u64,
+    merges: u32,
+    alloc: Global,
+}
+
+impl Model for Buckets {
+    ghost use Rattle.std.specs.Prelude.{length};
+    ghost use Rattle.rato_reduce.specs.private.CutTerms.{CutPolynomial};
+    ghost use Rattle.rato_reduce.specs.private.Buckets.{joined, joined_polynomial, AreLevelled, IsCounted};
+
+    ghost Value = { CutPolynomial };
+
+    ghost view = { λ b. joined_polynomial b.list.items };
+
+    ghost invariant = { λ b. AreLevelled b.places.items 0 b.list.items × IsCounted b.count (length (joined b.list.items)) };
+}
+
+impl Buckets {
+    /// The polynomial without terms.
+    pub fn new(alloc: Global, places: Vec<u32>) -> Buckets
+        ensures { result.terms ≡ [] }
+    {
+        Buckets {
+            places,
+            list: Vec::new(alloc),
+            count: 0,
+            merges: 0,
+            alloc,
+        }
+    }
+
+    /// Whether it is seen at once that it has at most so many terms.
+    pub fn is_within(&self, bound: u32) -> bool
+        ensures { IsTrue result → length self.now.terms ≤ bound }
+    {
+        self.count <= u64::from(bound)
+    }
+
+    /// Adds a term of rising bits. After running out of memory it is not used again.
+    pub fn add(&mut self, bits: Ranks, c: u64) -> Result<(), AllocError>
+        requires rising { IsStrictlySortedBy nat_cmp bits }
+        requires some { c ≢ 0 }
+        ensures { OnOk result (self.new.terms ≡ plus_term text_cmp self.old.terms (of_bits bits, c)) }
+    {
+        let level = level(self.places.as_slice(), bits.as_slice());
+        raise(self.alloc, &mut self.list, level)?;
+        self.count = more(self.count, 1);
+        push_at(self.list.as_mut_slice(), level, BitTerm::new(bits, c))
+    }
+
+    /// Adds the products of a term and of each of these sets of bits. After running out of memory it is not used again.
+    pub fn add_products(&mut self, term: &BitTerm, sets: &[Ranks]) -> Result<(), AllocError>
+        requires { IsBitTerm term.now }
+        ensures { OnOk result (self.new.terms ≡ plus text_cmp self.old.terms (products term.now sets.now)) }
+    {
+        for set in sets {
+            let bits = term.bits().union(set)?;
+            self.add(bits, term.coefficient())?;
+        }
+        Ok(())
+    }
+
+    /// Takes out the terms with the bit, and puts them, without it, in place of what `part` held. Equal ones may stand there
+    /// apart. After a stop neither is used again.
+    pub fn take_with(&mut self, rank: u32, part: &mut Vec<BitTerm>) -> Result<(), Stop>
+        ensures left { OnOk result (self.new.terms ≡ lacking rank self.old.terms) }
+        ensures part { OnOk result (plus text_cmp [] part.new.items ≡ cofactors rank self.old.terms) }
+        ensures each { OnOk result (AllByRecursion IsBitTerm part.new.items) }
+    {
+        part.clear();
+        let level = level_of(self.places.as_slice(), rank);
+        take_last(
+            self.alloc,
+            &mut self.list,
+            &mut self.count,
+            level,
+            rank,
+            part,
+        )
+    }
+
+    /// Adds up equal terms, from the list on that is taken first, until it is seen that there are at most so many, or this was
+    /// done too often. After running out of memory it is not used again.
+    pub fn merge(&mut self, bound: u32) -> Result<(), AllocError>
+        ensures { OnOk result (self.new.terms ≡ self.old.terms) }
+    {
+        if self.is_within(bound) || self.merges >= MERGES {
+            return Ok(());
+        }
+        self.merges += 1;
+        let lists = self.list.len();
+        for i in (0..lists).rev() {
+            self.merge_list(i, bound)?;
+        }
+        Ok(())
+    }
+
+    // Adds up equal terms of a list, if there is this one and there may be more terms than the bound.
+    fn merge_list(&mut self, i: usize, bound: u32) -> Result<(), AllocError>
+        ensures { OnOk result (self.new.terms ≡ self.old.terms) }
+    {
+        if i >= self.list.len() || self.is_within(bound) {
+            return Ok(());
+        }
+        let count = merge_at(self.alloc, self.list.as_mut_slice(), i, self.count)?;
+        self.count = count;
+        Ok(())
+    }
+
+    /// The same polynomial, in the order of a text.
+    pub fn to_poly(&self) -> Result<Poly, AllocError>
+        ensures { IfOk result (λ q. q.terms ≡ self.now.terms) }
+    {
+        let mut sum = Poly::zero(self.alloc);
+        add_lists(self.alloc, self.list.as_slice(), &mut sum)?;
+        Ok(sum)
+    }
+}
+
+// Adds the terms of lists to a polynomial.
+fn add_lists(alloc: Global, list: &[Bucket], sum: &mut Poly) -> Result<(), AllocError>
+    requires { AllByRecursion IsBitTerm (joined list.now) }
+    ensures { OnOk result (sum.new.terms ≡ plus text_cmp sum.old.terms (joined list.now)) }
+{
+    for bucket in list {
+        add_terms(alloc, bucket.as_slice(), sum)?;
+    }
+    Ok(())
+}
+
+// Takes the last list, if it is of this level or of a greater one.
+fn pop_from(list: &mut Vec<Bucket>, level: usize) -> Option<Bucket>
+    ensures some { IfSome result (λ bucket. list.old.items ≡ list.new.items ++ bucket ∷ []) }
+    ensures none { IfNone result ((list.new.items ≡ list.old.items) × (length list.old.items ≤ level)) }
+{
+    if list.len() <= level {
+        return None;
+    }
+    list.pop()
+}
+
+// Takes the list of this level, if there is one: its terms with the bit are put into the part, without it.
+fn take_last(
+    alloc: Global,
+    list: &mut Vec<Bucket>,
+    count: &mut u64,
+    level: usize,
+    rank: u32,
+    part: &mut Vec<BitTerm>,
+) -> Result<(), Stop>
+    requires { part.old.items ≡ [] }
+    ensures taken { OnOk result (AreOut rank list.old.items list.new.items part.new.items) }
+    ensures rest { OnOk result (length list.new.items ≤ level) }
+    ensures levelled { StayLevelled list.old.items list.new.items }
+    ensures counted { IsCounted count.old (length (joined list.old.items)) → IsCounted count.new (length (joined list.new.items)) }
+{
+    match pop_from(list, level) {
+        None => Ok(()),
+        Some(bucket) => {
+            *count = fewer(*count, bucket.len());
+            if list.len() > level {
+                return Err(Stop::GivesUp);
+            }
+            bucket.take_out(alloc, rank, part)
+        }
+    }
+}
+
+// A level up to which these bits are.
+fn level(places: &[u32], bits: &[u32]) -> usize
+    ensures { AreUpTo places.now result bits.now }
+{
+    places
+        .len()
+        .saturating_sub(first_place(places, bits) as usize)
+}
+
+// The level of a bit.
+fn level_of(places: &[u32], rank: u32) -> usize
+    ensures { result ≡ level_at places.now rank }
+{
+    places.len().saturating_sub(place_of(places, rank) as usize)
+}
+
+// The count of more things.
+fn more(count: u64, n: usize) -> u64
+    ensures { (m : ℕ) → IsCounted count m → IsCounted result (m + n) }
+{
+    count.saturating_add(n as u64)
+}
+
+// The count of fewer things.
+fn fewer(count: u64, n: usize) -> u64
+    ensures { (m : ℕ) → IsCounted count (m + n) → IsCounted result m }
+{
+    if count == u64::MAX {
+        return count;
+    }
+    count.saturating_sub(n as u64)
+}
+
+// Adds empty lists until there is one of this level.
+fn raise(alloc: Global, list: &mut Vec<Bucket>, level: usize) -> Result<(), AllocError>
+    ensures high { OnOk result (level < length list.new.items) }
+    ensures joined { joined list.new.items ≡ joined list.old.items }
+    ensures levelled { StayLevelled list.old.items list.new.items }
+{
+    while list.len() <= level {
+        list.push(Bucket::new(alloc))?;
+    }
+    Ok(())
+}
+
+// Adds a term to a list.
+fn push_at(list: &mut [Bucket], i: usize, term: BitTerm) -> Result<(), AllocError>
+    requires { i < length list.old }
+    ensures pushed { OnOk result (HasTermAt list.old list.new i term) }
+    ensures kept { OnErr result (list.new ≡ list.old) }
+{
+    list[i].push(term)
+}
+
+// Adds up equal terms of a list, and gives the count after that.
+fn merge_counted(alloc: Global, bucket: &mut Bucket, count: u64) -> Result<u64, AllocError>
+    ensures merged { IfOk result (λ n. IsMerged bucket.old bucket.new count n) }
+    ensures kept { OnErr result (bucket.new ≡ bucket.old) }
+{
+    let before = bucket.len();
+    bucket.merge(alloc)?;
+    let others = fewer(count, before);
+    Ok(more(others, bucket.len()))
+}
+
+// The same of the list at an index.
+fn merge_at(alloc: Global, list: &mut [Bucket], i: usize, count: u64) -> Result<u64, AllocError>
+    requires { i < length list.old }
+    ensures merged { IfOk result (λ n. IsMergedAt list.old list.new i count n) }
+    ensures kept { OnErr result (list.new ≡ list.old) }
+{
+    merge_counted(alloc, &mut list[i], count)
+}

@@ -1,0 +1,167 @@
+//! The elimination of all gates with terms in buckets, where no recorder asks for its steps.
+ghost use Rattle.std.specs.Prelude.{◌≡◌, ◌≤◌, [], length, None, IfOk, IfSome, OnOk};
+ghost use Rattle.std.specs.List.{AllByRecursion};
+ghost use Rattle.gf_basis.specs.BasisParts.{elements_of, IsBasisOver};
+ghost use Rattle.lists.specs.Lists.{Has};
+ghost use Rattle.net_core.specs.Order.{IsElimination};
+ghost use Rattle.net_core.specs.Sound.{IsSound};
+ghost use Rattle.poly_mixed.specs.Monomial.{text_cmp};
+ghost use Rattle.poly_mixed.specs.Polynomial.{IsReduced};
+ghost use Rattle.poly_mixed.specs.Sum.{plus};
+ghost use Rattle.stage_model.specs.Cut.{BoundCut};
+ghost use Rattle.stage_model.specs.CircuitListing.{bound_cuts};
+ghost use Rattle.stage_model.specs.Listing.{AreAllWithin};
+ghost use Rattle.stage_model.specs.Stage.{IsOfStage};
+ghost use Rattle.rato_reduce.specs.BoundVariables.{bound_variables, ranks_of_inputs};
+ghost use Rattle.rato_reduce.specs.GatePoint.{HasGatePutIn};
+ghost use Rattle.rato_reduce.specs.Monomials.{monomials};
+ghost use Rattle.rato_reduce.specs.Recorded.{AreAllRecorded};
+ghost use Rattle.rato_reduce.specs.private.CutTerms.{all_products, IsBitTerm};
+
+use crate::bit_term::BitTerm;
+use crate::buckets::Buckets;
+use crate::eliminate::input_ranks;
+use crate::first_cut::{first_cut, places, rank};
+use crate::monomials::monomials as monomials_of;
+use crate::ranks::Ranks;
+use crate::stop::Stop;
+use circuit_model::output_nets;
+use gf_basis::Basis;
+use gf_field::Field;
+use net_core::Gate;
+use net_words::Combinational;
+use poly_mixed::{Poly, Steps, exclusive_form};
+use std::alloc::{AllocError, Global};
+
+// An output word of fewer bits is not worth the lists.
+const FEW: usize = 2;
+
+// Adds the products of each of the terms and of each of these sets of bits.
+fn add_all_products(cut: &mut Buckets, part: &[BitTerm], sets: &[Ranks]) -> Result<(), AllocError>
+    requires { AllByRecursion IsBitTerm part.now }
+    ensures { OnOk result (cut.new.terms ≡ plus text_cmp cut.old.terms (all_products part.now sets.now)) }
+{
+    for term in part {
+        cut.add_products(term, sets)?;
+    }
+    Ok(())
+}
+
+// Adds the products of the terms and of the form of a table at the inputs of a gate.
+fn add_form(
+    alloc: Global,
+    circuit: &Combinational,
+    gate: &Gate,
+    form: u64,
+    part: &[BitTerm],
+    cut: &mut Buckets,
+) -> Result<(), AllocError>
+    requires sound { IsSound circuit.now.net }
+    requires gate { Has circuit.now.net.gates gate.now }
+    requires part { AllByRecursion IsBitTerm part.now }
+    ensures { OnOk result (cut.new.terms ≡ plus text_cmp cut.old.terms (all_products part.now (monomials form [] (ranks_of_inputs circuit.now gate.now) 0 1))) }
+{
+    if part.is_empty() {
+        return Ok(());
+    }
+    let ranks = input_ranks(alloc, circuit, gate)?;
+    let sets = monomials_of(alloc, form, &ranks)?;
+    add_all_products(cut, part, &sets)
+}
+
+// Puts a gate's table in place of its output. `part` is room for the terms with the net, whatever it holds.
+fn put_gate<F: Field>(
+    alloc: Global,
+    _field: &F,
+    circuit: &Combinational,
+    gate: &Gate,
+    cut: &mut Buckets,
+    part: &mut Vec<BitTerm>,
+) -> Result<(), Stop>
+    requires sound { IsSound circuit.now.net }
+    requires gate { Has circuit.now.net.gates gate.now }
+    requires cut { IsReduced (F.degree _field.now) cut.old.terms }
+    ensures reduced { OnOk result (IsReduced (F.degree _field.now) cut.new.terms) }
+    ensures values { OnOk result (HasGatePutIn (F.degree _field.now) (F.product _field.now) (bound_variables circuit.now) gate.now cut.old.terms cut.new.terms) }
+{
+    let rank = rank(circuit, gate.out());
+    cut.take_with(rank, part)?;
+    let form = exclusive_form(gate.table());
+    add_form(alloc, circuit, gate, form, part, cut)?;
+    Ok(())
+}
+
+// Ends unless it is seen that there are at most so many terms.
+fn check_size(cut: &mut Buckets, bound: u32) -> Result<(), Stop>
+    ensures same { OnOk result (cut.new.terms ≡ cut.old.terms) }
+    ensures within { OnOk result (length cut.new.terms ≤ bound) }
+{
+    cut.merge(bound)?;
+    if !cut.is_within(bound) {
+        return Err(Stop::GivesUp);
+    }
+    Ok(())
+}
+
+// The polynomial of the last cut, if it is seen that no cut has more terms than the bound.
+fn reduce<F: Field>(
+    alloc: Global,
+    field: &F,
+    circuit: &Combinational,
+    output: &Basis,
+    order: &[u32],
+    bound: u32,
+) -> Result<Poly, Stop>
+    requires bits { circuit.now.binding.k ≡ F.degree field.now }
+    requires basis { IsBasisOver (F.degree field.now) (F.product field.now) output.now }
+    requires order { IsElimination circuit.now.net order.now }
+    ensures last { IfOk result (λ q. IsOfStage (F.degree field.now) (F.product field.now) (BoundCut circuit.now (elements_of output.now) (length circuit.now.net.gates)) q.terms) }
+    ensures within { OnOk result (AreAllWithin (F.degree field.now) (F.product field.now) (bound_cuts circuit.now (elements_of output.now)) bound) }
+    ensures steps { OnOk result (AreAllRecorded (F.degree field.now) (F.product field.now) circuit.now (elements_of output.now) None None) }
+{
+    let net = circuit.net();
+    let list = output_nets(alloc, circuit.binding())?;
+    if list.len() < FEW {
+        return Err(Stop::GivesUp);
+    }
+    let places = places(alloc, circuit, order)?;
+    let first = first_cut(alloc, field, circuit, output, &list, places)?;
+    let mut cut = first.into_buckets()?;
+    check_size(&mut cut, bound)?;
+    let mut part = Vec::new(alloc);
+    for t in 0..order.len() {
+        let gate = &net.gates()[order[t] as usize];
+        put_gate(alloc, field, circuit, gate, &mut cut, &mut part)?;
+        check_size(&mut cut, bound)?;
+    }
+    let poly = cut.to_poly()?;
+    Ok(poly)
+}
+
+/// The polynomial of the last cut, if the recorder does not tell its steps, the output word has more than one bit, and it is
+/// seen that no cut has more terms than the bound.
+pub fn reduce_in_buckets<F: Field, T: Steps>(
+    alloc: Global,
+    field: &F,
+    circuit: &Combinational,
+    output: &Basis,
+    order: &[u32],
+    bound: u32,
+    steps: &T,
+) -> Result<Option<Poly>, AllocError>
+    requires bits { circuit.now.binding.k ≡ F.degree field.now }
+    requires basis { IsBasisOver (F.degree field.now) (F.product field.now) output.now }
+    requires order { IsElimination circuit.now.net order.now }
+    ensures last { IfOk result (λ o. IfSome o (λ q. IsOfStage (F.degree field.now) (F.product field.now) (BoundCut circuit.now (elements_of output.now) (length circuit.now.net.gates)) q.terms)) }
+    ensures within { IfOk result (λ o. IfSome o (λ _. AreAllWithin (F.degree field.now) (F.product field.now) (bound_cuts circuit.now (elements_of output.now)) bound)) }
+    ensures steps { IfOk result (λ o. IfSome o (λ _. AreAllRecorded (F.degree field.now) (F.product field.now) circuit.now (elements_of output.now) (T.steps steps.now) (T.steps steps.now))) }
+{
+    if steps.tells() {
+        return Ok(None);
+    }
+    match reduce(alloc, field, circuit, output, order, bound) {
+        Ok(poly) => Ok(Some(poly)),
+        Err(Stop::GivesUp) => Ok(None),
+        Err(Stop::OutOfMemory) => Err(AllocError),
+    }
+}
