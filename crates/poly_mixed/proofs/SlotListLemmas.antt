@@ -1,5 +1,5 @@
 -- Slots in rising lists, as a binary search finds them.
-use Rattle.std.proofs.Common.{◌≡◌, ℕ, zero, suc, ◌<◌, ◌≤◌, true, false, List, [], ◌∷◌, length, get_or, nat_eq, nat_lt, ◌==◌, refl, sym, ap, arith, Result, Ok, Err, subst}
+use Rattle.std.proofs.Common.{◌≡◌, ℕ, zero, suc, ◌<◌, ◌≤◌, ◌-◌, true, false, List, [], ◌∷◌, ◌++◌, length, get_or, nat_eq, nat_lt, ◌==◌, refl, sym, ap, arith, Result, Ok, Err, subst}
 use Rattle.std.specs.List.{insert, remove}
 use Rattle.std.specs.List.Sorted.{IsStrictlySortedBy, IsBinarySearchResult}
 use Rattle.std.specs.Ordering.{nat_cmp}
@@ -85,6 +85,25 @@ rises xs s i j h k = elim (nat_lt i j) as (λ b. nat_lt i j ≡ b → get_or xs 
   | true ↦ λ e. let l : get_or xs i 0 < get_or xs j 0 = below_from_sorted xs i j 0 s (ltb-true i j e) k in omega (arith, l)
   | false ↦ λ e. let same : i ≡ j = omega (arith, ltb-false i j e, h) in let P : ℕ → Type 0 = λ n. get_or xs i 0 ≤ get_or xs n 0 in subst P same (omega arith)
 ] refl
+
+-- a slot past the last one goes to the end
+pub with_rank-past : (xs : List ℕ) (x : ℕ) → IsGap xs (length xs) x → with_rank xs x ≡ xs ++ x ∷ []
+with_rank-past [] x g = refl
+with_rank-past (y ∷ ys) x g =
+    let l : y < x = g.below 0 (omega arith) in
+    let n : nat_lt x y ≡ false = not_less x y (omega (arith, l)) in
+    let e : (x == y) ≡ false = ne_eqb x y (λ e. omega (arith, l, e)) in
+    rw n (rw e (ap (λ zs. y ∷ zs) (with_rank-past ys x (rest_gap y ys (length ys) x g))))
+
+-- a slot that is larger than the last one is larger than each
+pub past_last : (xs : List ℕ) (x : ℕ) → IsStrictlySortedBy nat_cmp xs → nat_lt (get_or xs (length xs - 1) 0) x ≡ true → IsGap xs (length xs) x
+past_last xs x s e =
+    let l : get_or xs (length xs - 1) 0 < x = ltb-true (get_or xs (length xs - 1) 0) x e in
+    record {
+      within = omega arith;
+      below = λ k b. let h : get_or xs k 0 ≤ get_or xs (length xs - 1) 0 = rises xs s k (length xs - 1) (omega (arith, b)) (omega (arith, b)) in omega (arith, h, l);
+      above = λ k a b. absurd (omega (arith, a, b));
+    }
 
 -- what `binary_search` answers
 pub is_found : (xs : List ℕ) (x : ℕ) (r : Result ℕ ℕ) → IsStrictlySortedBy nat_cmp xs → IsBinarySearchResult (λ y. nat_cmp y x) xs r → IsFound xs x r

@@ -11,7 +11,6 @@ use std::alloc::{AllocError, Global};
 use std::marker::Model;
 
 // Monomials, each in a slot of its own.
-#[derive(Drop)]
 pub(crate) struct Index {
     slots: Slab<Mono>,
     lists: Lists,
@@ -29,6 +28,19 @@ impl Model for Index {
     ghost view = { λ x. x.slots.slots };
 
     ghost invariant = { λ x. (bit : ℕ) → IsListOf bit x.slots.slots (list_at x.lists bit) };
+}
+
+// By hand, so that a caller that lets one go makes one call, and not one for each part.
+impl Drop for Index {
+    fn drop(self) {
+        let Index {
+            slots,
+            lists,
+            alloc: _,
+        } = self;
+        drop(slots);
+        drop(lists);
+    }
 }
 
 impl Index {

@@ -26,7 +26,6 @@ impl Model for LabelledWord {
 }
 
 /// The names of the variables of a text: the words, the bits of the words by word and by place, and further nets.
-#[derive(Drop)]
 pub struct Labels {
     output: String,
     words: Vec<LabelledWord>,
@@ -43,6 +42,21 @@ impl Model for Labels {
     ghost view = { λ l. record { output = string_bytes l.output; words = l.words.items; nets = l.nets.items } };
 
     ghost invariant = { λ l. AreLabels (record { output = string_bytes l.output; words = l.words.items; nets = l.nets.items }) };
+}
+
+// By hand, so that a caller that lets them go makes one call, and not one for each part.
+impl Drop for Labels {
+    fn drop(self) {
+        let Labels {
+            output,
+            words,
+            nets,
+            alloc: _,
+        } = self;
+        drop(output);
+        drop(words);
+        drop(nets);
+    }
 }
 
 impl Labels {

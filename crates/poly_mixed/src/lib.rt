@@ -9,6 +9,7 @@ mod labels;
 mod laws;
 mod mono;
 mod named;
+mod numbers;
 mod place;
 mod poly;
 mod read;

@@ -15,7 +15,6 @@ use std::cmp::Ordering;
 use std::marker::Model;
 
 /// A product of powers of the words and of different bits.
-#[derive(Drop)]
 pub struct Mono {
     exponents: [u64; 8],
     // false only where each exponent is 0: most monomials are of bits alone, and their exponents are not read
@@ -34,6 +33,18 @@ impl Model for Mono {
     ghost view = { λ m. record { exponents = m.exponents; bits = m.bits.items } };
 
     ghost invariant = { λ m. IsStrictlySortedBy nat_cmp m.bits.items × (IsFalse m.has_words → m.exponents ≡ replicate 8 0) };
+}
+
+// By hand, so that a caller that lets one go makes one call, and not one for each part of its bits.
+impl Drop for Mono {
+    fn drop(self) {
+        let Mono {
+            exponents: _,
+            has_words: _,
+            bits,
+        } = self;
+        drop(bits);
+    }
 }
 
 impl Mono {

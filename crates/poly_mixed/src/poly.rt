@@ -23,7 +23,6 @@ use std::collections::btree_map::Entry;
 use std::marker::Model;
 
 /// A polynomial over a field, always reduced: a finite map from monomials to elements that are not 0.
-#[derive(Drop)]
 pub struct Poly {
     map: BTreeMap<Mono, Place>,
     index: Index,
@@ -39,6 +38,19 @@ impl Model for Poly {
     ghost view = { λ p. record { terms = terms_in p.map.entries; slots = p.index } };
 
     ghost invariant = { λ p. IsIndexed p.map.entries p.index };
+}
+
+// By hand, so that a caller that lets one go makes one call, and not one for each part.
+impl Drop for Poly {
+    fn drop(self) {
+        let Poly {
+            map,
+            index,
+            alloc: _,
+        } = self;
+        drop(map);
+        drop(index);
+    }
 }
 
 impl Poly {

@@ -1,14 +1,15 @@
 //! A polynomial from its text.
-ghost use Rattle.std.specs.Prelude.{◌≡◌, ◌==◌, ◌&&◌, ℕ, ◌≤◌, ◌^◌, length, nat_lt, OnOk, IfOk, IfErr, Ok};
+ghost use Rattle.std.specs.Prelude.{◌≡◌, ◌==◌, ◌&&◌, ℕ, ◌≤◌, [], length, nat_lt, OnOk, IfOk, IfErr, Ok};
 ghost use Rattle.outcome.specs.Outcome.{Fits};
 ghost use Rattle.poly_mixed.specs.Said.{added, one};
-ghost use Rattle.poly_mixed.specs.private.Reading.{reading, number_at, exponent_at, with_variable, next_at, factor_at, after_zero, coefficient_at, zero_at, term_at, advanced, IsSaid, IsScanned};
+ghost use Rattle.poly_mixed.specs.private.Reading.{reading, with_variable, next_at, factor_at, after_zero, coefficient_at, zero_at, term_at, advanced, IsSaid};
 ghost use Rattle.text_core.specs.Scan.{run, is_hex_digit};
 ghost use Rattle.poly_mixed.specs.private.ReadingState.{IsStep, IsAdded, IsFresh, IsFreshAfter, progress};
 ghost use Rattle.poly_mixed.specs.Polynomial.{Terms, IsReduced};
 ghost use Rattle.poly_mixed.specs.TextOutcome.{text_fault, TextOutcome};
 ghost use Rattle.poly_mixed.specs.Monomial.{Monomial};
 
+use crate::numbers::{exponent, is_below};
 use crate::variables::{Variable, read_variable};
 use crate::{Labels, Mono, Poly, PolyFault};
 use std::alloc::{AllocError, Global};
@@ -169,6 +170,35 @@ impl Reading {
             _ => Err(PolyFault::Syntax),
         }
     }
+
+    // All parts of a text, from its first term on.
+    fn parts(
+        &mut self,
+        alloc: Global,
+        bytes: &[u8],
+        k: u32,
+        labels: &Labels,
+    ) -> Result<(), PolyFault>
+        requires k_in { (1 ≤ k) × (k ≤ 64) }
+        requires sum { self.old.sum.terms ≡ [] }
+        requires coefficient { self.old.coefficient ≡ 1 }
+        requires mono { self.old.mono ≡ one }
+        ensures read { OnOk result (reading labels.now k bytes.now ≡ Ok self.new.sum.terms) }
+        ensures fault { IfErr result (IsSaid (reading labels.now k bytes.now)) }
+    {
+        let mut next = Next::Term(bytes);
+        for _ in 0..bytes.len() + 1 {
+            match self.advance(alloc, labels, k, next) {
+                Ok(more) => next = more,
+                Err(fault) => return Err(fault),
+            }
+        }
+        match next {
+            Next::Done => Ok(()),
+            Next::Term(_) => Err(PolyFault::Syntax),
+            Next::Factor(_) => Err(PolyFault::Syntax),
+        }
+    }
 }
 
 // Whether a byte after a `0` and the bytes after it begin a coefficient.
@@ -251,49 +281,12 @@ fn read_parts(alloc: Global, bytes: &[u8], k: u32, labels: &Labels) -> Result<Po
     ensures fault { IfErr result (IsSaid (reading labels.now k bytes.now)) }
 {
     let mut reading = Reading {
+        mono: Mono::new(alloc, &[], &[0; 8])?,
         sum: Poly::zero(alloc),
         coefficient: 1,
-        mono: Mono::new(alloc, &[], &[0; 8])?,
     };
-    let mut next = Next::Term(bytes);
-    for _ in 0..=bytes.len() {
-        match reading.advance(alloc, labels, k, next) {
-            Ok(more) => next = more,
-            Err(fault) => return Err(fault),
-        }
+    match reading.parts(alloc, bytes, k, labels) {
+        Ok(()) => Ok(reading.sum),
+        Err(fault) => Err(fault),
     }
-    match next {
-        Next::Done => Ok(reading.sum),
-        _ => Err(PolyFault::Syntax),
-    }
-}
-
-// An exponent from 1 to 2^k - 1 after `^`, or 1 where none stands.
-fn exponent(k: u32, bytes: &[u8]) -> Result<(u64, &[u8]), PolyFault>
-    requires { (1 ≤ k) × (k ≤ 64) }
-    ensures { IsScanned (exponent_at k bytes.now) result }
-{
-    match skip_blanks(bytes) {
-        [b'^', rest @ ..] => number(k, skip_blanks(rest)),
-        _ => Ok((1, bytes)),
-    }
-}
-
-// A decimal number from 1 to 2^k - 1.
-fn number(k: u32, bytes: &[u8]) -> Result<(u64, &[u8]), PolyFault>
-    requires { (1 ≤ k) × (k ≤ 64) }
-    ensures { IsScanned (number_at k bytes.now) result }
-{
-    match value_in_base(front(bytes, Class::Digit), 10) {
-        Some(n) if 0 < n && is_below(n, k) => Ok((n, after(bytes, Class::Digit))),
-        _ => Err(PolyFault::Syntax),
-    }
-}
-
-// Whether a number is below 2^k.
-fn is_below(n: u64, k: u32) -> bool
-    requires { (1 ≤ k) × (k ≤ 64) }
-    ensures { result ≡ nat_lt n (2 ^ k) }
-{
-    n <= u64::MAX >> (64 - k)
 }

@@ -1,9 +1,9 @@
 //! For each bit the rising list of the slots of the terms that have it.
-ghost use Rattle.std.specs.Prelude.{◌≡◌, ℕ, [], OnOk, OnErr};
+ghost use Rattle.std.specs.Prelude.{◌≡◌, ℕ, true, [], length, OnOk, OnErr};
 ghost use Rattle.std.specs.List.Sorted.{IsStrictlySortedBy};
 ghost use Rattle.std.specs.Ordering.{nat_cmp};
 ghost use Rattle.poly_mixed.specs.Product.{with_rank};
-ghost use Rattle.poly_mixed.specs.private.Listed.{IsFound, list_at, without_slot, changed, all_changed};
+ghost use Rattle.poly_mixed.specs.private.Listed.{IsFound, IsGap, list_at, without_slot, changed, all_changed};
 
 use std::alloc::{AllocError, Global};
 use std::collections::BTreeMap;
@@ -107,8 +107,33 @@ fn find(list: &[usize], slot: &usize) -> Result<usize, usize>
     list.binary_search(slot)
 }
 
-// Puts a slot into a rising list; mostly it comes last.
+// Whether a slot is larger than each of a rising list.
+fn is_past(list: &[usize], slot: usize) -> bool
+    requires { IsStrictlySortedBy nat_cmp list.now }
+    ensures { result ≡ true → IsGap list.now (length list.now) slot }
+{
+    match list.len() {
+        0 => true,
+        n => list[n - 1] < slot,
+    }
+}
+
+// Puts a slot into a rising list; mostly it comes last, and one comparison shows it.
 fn put_slot(list: &mut Vec<usize>, slot: usize) -> Result<(), AllocError>
+    requires { IsStrictlySortedBy nat_cmp list.old.items }
+    ensures rising { IsStrictlySortedBy nat_cmp list.new.items }
+    ensures with { OnOk result (list.new.items ≡ with_rank list.old.items slot) }
+    ensures unchanged { OnErr result (list.new.items ≡ list.old.items) }
+{
+    if is_past(list.as_slice(), slot) {
+        list.push(slot)?;
+        return Ok(());
+    }
+    put_within(list, slot)
+}
+
+// Puts a slot into a rising list at its place.
+fn put_within(list: &mut Vec<usize>, slot: usize) -> Result<(), AllocError>
     requires { IsStrictlySortedBy nat_cmp list.old.items }
     ensures rising { IsStrictlySortedBy nat_cmp list.new.items }
     ensures with { OnOk result (list.new.items ≡ with_rank list.old.items slot) }

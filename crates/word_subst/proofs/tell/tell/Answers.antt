@@ -2,6 +2,7 @@ use Rattle.std.proofs.Common.{rules, ◌≡◌, ◌∙◌, None}
 use Rattle.gf_basis.specs.BasisParts.{elements_of}
 use Rattle.poly_mixed.proofs.FieldLaws.{field_of}
 use Rattle.word_subst.specs.Rest.{rest_of}
+use Rattle.word_subst.proofs.OneTermLemmas.{none_told}
 use Rattle.word_subst.proofs.ToldLemmas.{all_quiet}
 use Rattle.word_subst.proofs.tell.tell.Goals as goal
 
@@ -13,6 +14,10 @@ returns-then-not-tells g c =
 
 pub tell_bit-requires-clause-others : goal.tell_bit-requires-clause-others
 tell_bit-requires-clause-others g c = c.in_ok-others.ensures ∙ (λ i. rest_of (c.k.ensures i) c.args.word (c.mono.ensures i))
+
+pub loop-j-init : goal.loop-j-init
+loop-j-init g c =
+    none_told (g.F.Ring.degree c.args.field.now) c.args.word c.args.term.now (g.F.Ring.product c.args.field.now) (elements_of c.args.basis.now) c.args.bound (g.T.Steps.steps c.args.steps.now)
 
 pub loop-j-preserved : goal.loop-j-preserved
 loop-j-preserved g c = c.in_ok-tell_bit.ensures (g.T.Steps.steps c.args.steps.now) c.loop-j.invariant

@@ -2,7 +2,7 @@ use Rattle.std.proofs.Common.{◌^◌, inl, inr, sym, ◌∙◌, arith}
 use Rattle.std.proofs.lemmas.Bool.{lt-ltb, le-ltb, cases_lt, le-leb, lt-leb}
 use Rattle.std.proofs.lemmas.Nat.{pow_pos}
 use Rattle.poly_mixed.proofs.ExponentLemmas.{top}
-use Rattle.poly_mixed.proofs.read.is_below.Goals as goal
+use Rattle.poly_mixed.proofs.numbers.is_below.Goals as goal
 
 pub returns : goal.returns
 returns c =
