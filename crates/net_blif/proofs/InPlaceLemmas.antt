@@ -1,5 +1,5 @@
 -- Lines that stand alone, one run of bytes after another.
-use Rattle.std.proofs.Common.{◌≡◌, ◌⊎◌, ◌∙◌, inl, inr, ap, sym, refl, subst, ℕ, zero, suc, ◌<◌, ◌≤◌, ◌+◌, ◌-◌, Bool, true, false, cond, List, [], ◌∷◌, ◌++◌, length, take, drop, get_or, append-nil, take-append-drop, get_or-take, length-take-le, not, Result, Ok, Err, arith, ne_eqb, eqb-true, ltb, lt-ltb}
+use Rattle.std.proofs.Common.{◌≡◌, ◌⊎◌, ◌∙◌, inl, inr, ap, sym, refl, subst, ℕ, zero, suc, ◌<◌, ◌≤◌, ◌+◌, ◌-◌, Bool, true, false, cond, List, [], ◌∷◌, ◌++◌, length, take, drop, get_or, append-nil, take-append-drop, get_or-take, length-take-le, not, arith, ne_eqb, eqb-true, ltb, lt-ltb}
 use Rattle.std.specs.Prelude.{◌==◌, ◌||◌, nat_lt, All, filter}
 use Rattle.std.specs.List.{slice_split, onto_first, prefix_len}
 use Rattle.std.specs.Str.Lines.{lines, lines_of_parts, strip_carriage_return}
@@ -9,11 +9,9 @@ use Rattle.std.proofs.lemmas.List.Splits.{slice_split_at, slice_split_none}
 use Rattle.lists.specs.laws.TestLaws.{suc_not_zero}
 use Rattle.text_core.specs.Lines.{before_comment, is_blank, tokens_of}
 use Rattle.text_core.proofs.LineLemmas.{lines_at}
-use Rattle.net_blif.specs.Lines.{Numbered, before_trimmed, clean, goes_on, is_trailing, joined, trim_end}
-use Rattle.net_blif.specs.Models.{Reading, Reads, ReadsLine}
+use Rattle.net_blif.specs.Lines.{before_trimmed, clean, goes_on, is_trailing, trim_end}
 use Rattle.net_blif.specs.Statement.{IsToken, Token}
-use Rattle.net_blif.specs.private.InPlace.{as_word, IsWordByte, StandsAlone}
-use Rattle.net_blif.specs.declared.fault.BlifFault.{BlifFault}
+use Rattle.net_blif.specs.private.FirstLine.{as_word, IsWordByte, StandsAlone}
 
 -- ---- bytes
 
@@ -216,26 +214,3 @@ word_to text i below each =
     let P : ℕ → Type 0 = IsWordByte in
     let size : length (take i text) ≤ i = omega (arith, length-take-le i text (omega arith)) in
     All-from_get_or IsWordByte (take i text) 0 (λ k less. subst P (sym (get_or-take i text k 0 (omega (arith, less, size)))) (each k (omega (arith, less, size))))
-
--- ---- what is read of it
-
-alone_joined : (text : List ℕ) (words : List Token) (after : List ℕ) (n : ℕ) (alone : StandsAlone text words after) → joined n (lines text) ≡ (n, clean alone.line) ∷ joined (n + 1) (lines after)
-alone_joined text words after n alone = let ends : goes_on (clean alone.line) ≡ false = alone.ends in ap (joined n) alone.first ∙ rw ends refl
-
-reads_more : (reading more : Reading) (line : Numbered) (rest : List Numbered) → ReadsLine reading line.0 (tokens_of line.1) (Ok more) → (outcome : Result Reading BlifFault) → Reads more rest outcome → Reads reading (line ∷ rest) outcome
-reads_more reading more line rest step (Ok end) reads = (more, step, reads)
-reads_more reading more line rest step (Err fault) reads = inr (more, step, reads)
-
--- what its words say, and then what the lines after it say
-pub alone_read : (reading more : Reading) (text : List ℕ) (words : List Token) (after : List ℕ) (n : ℕ) → StandsAlone text words after → ReadsLine reading n words (Ok more) → (outcome : Result Reading BlifFault) → Reads more (joined (n + 1) (lines after)) outcome → Reads reading (joined n (lines text)) outcome
-alone_read reading more text words after n alone step outcome reads =
-    let P : List Numbered → Type 0 = λ all. Reads reading all outcome in
-    let S : List Token → Type 0 = λ ts. ReadsLine reading n ts (Ok more) in
-    subst P (sym (alone_joined text words after n alone)) (reads_more reading more (n, clean alone.line) (joined (n + 1) (lines after)) (subst S alone.are step) outcome reads)
-
--- the fault of its words
-pub alone_refused : (reading : Reading) (text : List ℕ) (words : List Token) (after : List ℕ) (n : ℕ) (fault : BlifFault) → StandsAlone text words after → ReadsLine reading n words (Err fault) → Reads reading (joined n (lines text)) (Err fault)
-alone_refused reading text words after n fault alone step =
-    let P : List Numbered → Type 0 = λ all. Reads reading all (Err fault) in
-    let S : List Token → Type 0 = λ ts. ReadsLine reading n ts (Err fault) in
-    subst P (sym (alone_joined text words after n alone)) (inl (subst S alone.are step))

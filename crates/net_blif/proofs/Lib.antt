@@ -2,6 +2,8 @@ pub mod DesignLemmas
 pub mod ItemLemmas
 pub mod LineLemmas
 pub mod InPlaceLemmas
+pub mod RunLemmas
+pub mod FirstLineLemmas
 pub mod TokenLemmas
 pub mod PlaceLemmas
 pub mod StatementLemmas

@@ -9,15 +9,12 @@ use Rattle.std.proofs.lemmas.Bool.{cases_lt}
 use Rattle.std.proofs.lemmas.List.{take_more}
 use Rattle.std.proofs.lemmas.Nat.{div-mul-add, mul-add-lt, shl_whole, shr-shr}
 use Rattle.std.proofs.lemmas.Nat.Bits.{bit_at-zero, bit_at_above, bit_at_cat_low, bit_at_cat_high, bit_at_or, same_from_bits, same_from_bits_below}
+use Rattle.lists.specs.laws.BoolLaws.{and_into}
 use Rattle.net_blif.specs.Cover.{bit_value, cell_fits, fits, fits_some, gate_bit, number_of_bits}
 use Rattle.net_blif.specs.private.Rows.{unless}
 use Rattle.net_blif.proofs.TableLemmas.{bits_same, bits_small}
 
 -- ---- one more cell, which asks for the highest bit
-
-and_assoc : (x y z : Bool) → ((x && y) && z) ≡ (x && (y && z))
-and_assoc true y z = refl
-and_assoc false y z = refl
 
 and_true : (x : Bool) → (x && true) ≡ x
 and_true true = refl
@@ -30,7 +27,7 @@ fits_push : (cells : List ℕ) (c i : ℕ) → fits (cells ++ c ∷ []) i ≡ (f
 fits_push [] c i = and_true (cell_fits c i) ∙ ap (cell_fits c) (sym (div-one i))
 fits_push (d ∷ ds) c i =
     ap (λ b. cell_fits d i && b) (fits_push ds c (i / 2) ∙ ap (λ j. fits ds (i / 2) && cell_fits c j) (halves i (length ds)))
-    ∙ sym (and_assoc (cell_fits d i) (fits ds (i / 2)) (cell_fits c (i / 2 ^ suc (length ds))))
+    ∙ and_into (cell_fits d i) (fits ds (i / 2)) (cell_fits c (i / 2 ^ suc (length ds)))
 
 -- cells ask for no bit above theirs
 fits_low : (cells : List ℕ) (i : ℕ) → fits cells (2 ^ length cells + i) ≡ fits cells i
@@ -146,11 +143,11 @@ some_push [] row i = or_false (fits row i)
     or_false : (x : Bool) → (x || false) ≡ x
     or_false true = refl
     or_false false = refl
-some_push (r ∷ rows) row i = ap (λ b. fits r i || b) (some_push rows row i) ∙ sym (or_assoc (fits r i) (fits_some rows i) (fits row i))
+some_push (r ∷ rows) row i = ap (λ b. fits r i || b) (some_push rows row i) ∙ or_turned (fits r i) (fits_some rows i) (fits row i)
   where
-    or_assoc : (x y z : Bool) → ((x || y) || z) ≡ (x || (y || z))
-    or_assoc true y z = refl
-    or_assoc false y z = refl
+    or_turned : (x y z : Bool) → (x || (y || z)) ≡ ((x || y) || z)
+    or_turned true y z = refl
+    or_turned false y z = refl
 
 pub rows_more : (rows : List (List ℕ)) (row : List ℕ) (n bits : ℕ) → bits ≡ number_of_bits (fits_some rows) n → bit_or bits (number_of_bits (fits row) n) ≡ number_of_bits (fits_some (rows ++ row ∷ [])) n
 rows_more rows row n bits is =
@@ -204,9 +201,9 @@ row_step pattern i bits width new below wide is made =
     let next : suc i ≡ i + 1 = omega arith in
     made ∙ (ap (λ w. unless (c == 48) bits * 2 ^ w + unless (c == 49) bits) wide ∙ (step ∙ (ap (λ l. number_of_bits (fits l) (2 ^ suc i)) (sym (take_more pattern i 0 below)) ∙ ap (λ n. number_of_bits (fits (take (i + 1) pattern)) (2 ^ n)) next)))
 
-pub rows_step : (rows : List (List ℕ)) (i n bits one new : ℕ) (row : List ℕ) → i < length rows → row ≡ get_or rows i [] → bits ≡ number_of_bits (fits_some (take i rows)) n → one ≡ number_of_bits (fits row) n → new ≡ bit_or bits one → new ≡ number_of_bits (fits_some (take (i + 1) rows)) n
-rows_step rows i n bits one new row below at is row_is made =
-    let longer : take (i + 1) rows ≡ take i rows ++ row ∷ [] = take_more rows i [] below ∙ ap (λ (r : List ℕ). take i rows ++ r ∷ []) (sym at) in
+pub rows_step : (rows : List (List ℕ)) (i n bits one new : ℕ) (row d : List ℕ) → i < length rows → row ≡ get_or rows i d → bits ≡ number_of_bits (fits_some (take i rows)) n → one ≡ number_of_bits (fits row) n → new ≡ bit_or bits one → new ≡ number_of_bits (fits_some (take (i + 1) rows)) n
+rows_step rows i n bits one new row d below at is row_is made =
+    let longer : take (i + 1) rows ≡ take i rows ++ row ∷ [] = take_more rows i d below ∙ ap (λ (r : List ℕ). take i rows ++ r ∷ []) (sym at) in
     made ∙ (ap (bit_or bits) row_is ∙ (rows_more (take i rows) row n bits is ∙ ap (λ (rs : List (List ℕ)). number_of_bits (fits_some rs) n) (sym longer)))
 
 pub rows_all : (rows : List (List ℕ)) (i n bits : ℕ) → length rows ≤ i → bits ≡ number_of_bits (fits_some (take i rows)) n → bits ≡ number_of_bits (fits_some rows) n

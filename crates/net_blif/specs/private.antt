@@ -1,4 +1,5 @@
 pub mod Connecting
 pub mod Leading
-pub mod InPlace
+pub mod FirstLine
 pub mod Rows
+pub mod ReadOn

@@ -6,21 +6,20 @@ ghost use Rattle.net_blif.specs.Cover.{fits as row_fits, cell_fits as fits_cell,
 
 use crate::item_list::ItemList;
 use crate::token::Token;
-use crate::token_list::{TokenList, TokenSlice};
 use std::alloc::{AllocError, Global};
 use std::marker::Model;
 
-/// A `.names` with the rows that have been read.
-pub struct Cover {
+/// A `.names` with the rows that have been read; its names and rows are those of the text.
+pub struct Cover<'a> {
     line: u32,
-    inputs: TokenList,
-    out: Vec<u8>,
+    inputs: Vec<Token<'a>>,
+    out: Token<'a>,
     output: Option<bool>,
-    rows: TokenList,
+    rows: Vec<Token<'a>>,
 }
 
 // By hand, so that a caller that lets one go makes one call, and not one for each part.
-impl Drop for Cover {
+impl<'a> Drop for Cover<'a> {
     fn drop(self) {
         let Cover {
             line: _,
@@ -35,37 +34,40 @@ impl Drop for Cover {
     }
 }
 
-impl Model for Cover {
+impl<'a> Model for Cover<'a> {
     ghost use Rattle.net_blif.specs.Cover.{CoverValue};
 
     ghost Value = { CoverValue };
 
-    ghost view = { λ c. record { line = c.line; inputs = c.inputs; out = c.out.items; output = c.output; rows = c.rows } };
+    ghost view = { λ c. record { line = c.line; inputs = c.inputs.items; out = c.out; output = c.output; rows = c.rows.items } };
 }
 
-impl Cover {
+impl<'a> Cover<'a> {
     /// A cover of no nets. It takes no memory.
-    pub fn new(alloc: Global) -> Cover {
+    pub fn new(alloc: Global) -> Cover<'a> {
         Cover {
             line: 0,
-            inputs: TokenList::new(alloc),
-            out: Vec::new(alloc),
+            inputs: Vec::new(alloc),
+            out: Token::new(&[]),
             output: None,
-            rows: TokenList::new(alloc),
+            rows: Vec::new(alloc),
         }
     }
 
     /// Begins a cover at this line. An error leaves some cover.
-    pub fn begin(&mut self, line: u32, inputs: &[Token<'_>], out: &[u8]) -> Result<(), AllocError>
+    pub fn begin(
+        &mut self,
+        line: u32,
+        inputs: &[Token<'a>],
+        out: &'a [u8],
+    ) -> Result<(), AllocError>
         ensures { OnOk result (self.new ≡ begun line inputs.now out.now) }
     {
         self.line = line;
         self.output = None;
         self.rows.clear();
-        self.inputs.clear();
-        self.inputs.push_all(inputs)?;
-        self.out.clear();
-        self.out.extend_from_slice(out)?;
+        copy_tokens(inputs, &mut self.inputs)?;
+        self.out = Token::new(out);
         Ok(())
     }
 
@@ -77,11 +79,11 @@ impl Cover {
     }
 
     /// One more row.
-    pub fn add_row(&mut self, pattern: &[u8], output: bool) -> Result<(), AllocError>
+    pub fn add_row(&mut self, pattern: &'a [u8], output: bool) -> Result<(), AllocError>
         ensures made { OnOk result (self.new ≡ with_row pattern.now output self.old) }
         ensures unchanged { OnErr result (self.new ≡ self.old) }
     {
-        self.rows.push(pattern)?;
+        self.rows.push(Token::new(pattern))?;
         self.output = Some(output);
         Ok(())
     }
@@ -91,10 +93,20 @@ impl Cover {
         requires { IsSoundCover self.now }
         ensures { OnOk result (items.new ≡ items.old ++ gate_of self.now ∷ []) }
     {
-        let inputs = self.inputs.all();
-        let table = table(inputs.len() as u32, self.output, &self.rows.all());
-        items.push_gate(self.line, &inputs, &self.out, table)
+        let table = table(self.inputs.len() as u32, self.output, &self.rows);
+        items.push_gate(self.line, &self.inputs, self.out.bytes(), table)
     }
+}
+
+// These tokens in place of those of a list.
+fn copy_tokens<'a>(tokens: &[Token<'a>], list: &mut Vec<Token<'a>>) -> Result<(), AllocError>
+    ensures { OnOk result (list.new.items ≡ tokens.now) }
+{
+    list.clear();
+    for token in tokens {
+        list.push(Token::new(token.bytes()))?;
+    }
+    Ok(())
 }
 
 // Whether a further row may have this output.
@@ -227,19 +239,19 @@ fn row_bits(inputs: u32, pattern: &[u8]) -> u64
 }
 
 // The bits of the indices that some row fits.
-fn rows_bits(inputs: u32, rows: &TokenSlice<'_>) -> u64
+fn rows_bits(inputs: u32, rows: &[Token<'_>]) -> u64
     requires { inputs ≤ 6 }
     ensures { result ≡ number_of_bits (some_fits rows.now) (2 ^ inputs) }
 {
     let mut bits = 0;
-    for place in 0..rows.len() {
-        bits |= row_bits(inputs, rows.get(place));
+    for row in rows {
+        bits |= row_bits(inputs, row.bytes());
     }
     bits
 }
 
 // The table of a cover with this output and these rows.
-fn table(inputs: u32, output: Option<bool>, rows: &TokenSlice<'_>) -> u64
+fn table(inputs: u32, output: Option<bool>, rows: &[Token<'_>]) -> u64
     requires { inputs ≤ 6 }
     ensures small { result < 2 ^ (2 ^ inputs) }
     ensures bits { result ≡ number_of_bits (λ index. bit_of_gate output (some_fits rows.now index)) (2 ^ inputs) }

@@ -1,12 +1,13 @@
 //! Lines that stand alone, read where they stand.
-ghost use Rattle.std.specs.Prelude.{◌≡◌, ◌<◌, ◌≤◌, ◌∷◌, ◌++◌, [], false, length, All, IsTrue, IfOk, IfSome, OnOk};
+ghost use Rattle.std.specs.Prelude.{◌≡◌, ◌<◌, ◌≤◌, ◌∷◌, ◌++◌, [], ℕ, false, length, slice_index, All, IsTrue, IfOk, IfSome, OnOk};
 ghost use Rattle.std.specs.Str.Lines.{lines};
 ghost use Rattle.text_core.specs.Lines.{is_blank as blank};
 ghost use Rattle.net_blif.specs.Lines.{goes_on as line_goes_on};
 ghost use Rattle.net_blif.specs.Statement.{IsToken};
-ghost use Rattle.net_blif.specs.private.InPlace.{as_word, IsWordByte, StandsAlone};
+ghost use Rattle.net_blif.specs.private.FirstLine.{as_word, IsWordByte, StandsAlone};
 
 use crate::token::Token;
+use crate::word_run::word_run;
 use std::alloc::AllocError;
 
 // The front of a text: bytes from `$` to `~`, as many as there are, the byte behind them, and what follows it.
@@ -17,22 +18,34 @@ struct Front<'a> {
     rest: &'a [u8],
 }
 
+// The front of a text, which begins with at least so many bytes from `$` to `~`; none where all its bytes are such.
+fn front_from(text: &[u8], start: usize) -> Option<Front<'_>>
+    requires start { start ≤ length text.now }
+    requires begins { (k : ℕ) → k < start → IsWordByte (slice_index text.now k) }
+    ensures is { IfSome result (λ f. text.now ≡ f.word.now ++ f.byte ∷ f.rest.now) }
+    ensures word { IfSome result (λ f. All IsWordByte f.word.now) }
+    ensures shorter { IfSome result (λ f. length f.rest.now < length text.now) }
+{
+    for i in start..text.len() {
+        let byte = text[i];
+        if byte < b'$' || byte > b'~' {
+            return Some(Front {
+                word: &text[..i],
+                byte,
+                rest: &text[i + 1..],
+            });
+        }
+    }
+    None
+}
+
 // The front of a text; none where all bytes are from `$` to `~`.
 fn front_of(text: &[u8]) -> Option<Front<'_>>
     ensures is { IfSome result (λ f. text.now ≡ f.word.now ++ f.byte ∷ f.rest.now) }
     ensures word { IfSome result (λ f. All IsWordByte f.word.now) }
     ensures shorter { IfSome result (λ f. length f.rest.now < length text.now) }
 {
-    for (i, byte) in text.iter().enumerate() {
-        if *byte < b'$' || *byte > b'~' {
-            return Some(Front {
-                word: &text[..i],
-                byte: *byte,
-                rest: &text[i + 1..],
-            });
-        }
-    }
-    None
+    front_from(text, word_run(text))
 }
 
 fn is_blank(byte: u8) -> bool

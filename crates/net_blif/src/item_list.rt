@@ -7,7 +7,7 @@ ghost use Rattle.net_blif.specs.Statement.{IsToken};
 
 use crate::item::Item;
 use crate::token::Token;
-use crate::token_list::{TokenList, TokenSlice};
+use crate::token_list::TokenList;
 use net_core::Start;
 use std::alloc::{AllocError, Global};
 use std::marker::Model;
@@ -145,7 +145,7 @@ impl ItemList {
     pub fn push_gate(
         &mut self,
         line: u32,
-        inputs: &TokenSlice<'_>,
+        inputs: &[Token<'_>],
         out: &[u8],
         table: u64,
     ) -> Result<(), AllocError>
@@ -156,7 +156,7 @@ impl ItemList {
         ensures { OnOk result (self.new ≡ self.old ++ Item.Gate line inputs.now out.now table ∷ []) }
     {
         let first = number(self.tokens.len())?;
-        self.tokens.append(inputs)?;
+        self.tokens.push_all(inputs)?;
         let end = number(self.tokens.len())?;
         self.tokens.push(out)?;
         self.places.push(Place::Gate {

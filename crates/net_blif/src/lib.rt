@@ -24,6 +24,7 @@ mod table;
 mod token;
 mod token_list;
 mod top;
+mod word_run;
 
 pub use connection::sides;
 pub use design::Design;

@@ -18,14 +18,14 @@ use std::marker::Model;
 
 /// A model whose lines are being read, and the cover just begun, where one is open.
 #[derive(Drop)]
-pub struct OpenModel {
+pub struct OpenModel<'a> {
     name: Name,
     items: ItemList,
-    cover: Cover,
+    cover: Cover<'a>,
     is_open: bool,
 }
 
-impl Model for OpenModel {
+impl<'a> Model for OpenModel<'a> {
     ghost use Rattle.std.specs.Prelude.{IsTrue, None, Some, if◌then◌else◌};
     ghost use Rattle.net_blif.specs.Item.{IsSoundCover};
     ghost use Rattle.net_blif.specs.Models.{OpenValue};
@@ -37,9 +37,9 @@ impl Model for OpenModel {
     ghost invariant = { λ m. IsTrue m.is_open → IsSoundCover m.cover };
 }
 
-impl OpenModel {
+impl<'a> OpenModel<'a> {
     /// A model of this name before its lines. It takes no memory.
-    pub fn new(alloc: Global, name: Name) -> OpenModel
+    pub fn new(alloc: Global, name: Name) -> OpenModel<'a>
         ensures { result ≡ record { name = name; items = []; cover = None } }
     {
         OpenModel {
@@ -72,8 +72,8 @@ impl OpenModel {
     pub fn begin_cover(
         &mut self,
         line: u32,
-        inputs: &[Token<'_>],
-        out: &[u8],
+        inputs: &[Token<'a>],
+        out: &'a [u8],
     ) -> Result<(), AllocError>
         requires few { length inputs.now ≤ 6 }
         requires inputs { All IsToken inputs.now }
@@ -141,7 +141,7 @@ impl OpenModel {
     }
 
     /// One more row of the cover just begun.
-    pub fn add_row(&mut self, pattern: &[u8], output: bool) -> Result<(), AllocError>
+    pub fn add_row(&mut self, pattern: &'a [u8], output: bool) -> Result<(), AllocError>
         ensures { OnOk result (self.new ≡ with_cover_row pattern.now output self.old) }
     {
         if self.is_open {
@@ -152,7 +152,7 @@ impl OpenModel {
 
     /// The model, of which this was the last line.
     pub fn finish(self) -> Result<ModelText, AllocError>
-        ensures { IfOk result (λ model. model ≡ record { name = self.name; items = placed self }) }
+        ensures { IfOk result (λ model. model ≡ record { name = self.entry.name; items = placed self.entry }) }
     {
         let mut model = self;
         model.close()?;

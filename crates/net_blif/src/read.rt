@@ -1,19 +1,19 @@
 //! The reader of BLIF.
-ghost use Rattle.std.specs.Prelude.{◌≡◌, ◌⊎◌, ◌<◌, ◌≤◌, ◌+◌, ◌==◌, ◌&&◌, Result, Ok, Err, IfOk, IfErr, length, take_while, nat_le};
+ghost use Rattle.std.specs.Prelude.{◌≡◌, ◌⊎◌, ◌<◌, ◌≤◌, ◌+◌, ◌==◌, ◌&&◌, Ok, Err, IfOk, IfErr, length, take_while, nat_le};
 ghost use Rattle.std.specs.Str.Lines.{lines};
-ghost use Rattle.text_core.specs.Lines.{tokens_of};
 ghost use Rattle.net_blif.specs.Lines.{joined, lines_of};
 ghost use Rattle.net_blif.specs.Statement.{is_dotted as dotted};
-ghost use Rattle.net_blif.specs.Models.{begins, first_word as first_word_of, start, BlifDesign, Reading, Reads};
+ghost use Rattle.net_blif.specs.Models.{begins, first_word as first_word_of, start, BlifDesign, Reads};
+ghost use Rattle.net_blif.specs.private.ReadOn.{ReadsOn};
 
 use crate::in_place::line_in_place;
 use crate::lines::next_joined;
 use crate::reader::Reader;
+use crate::spelling::are_tokens;
 use crate::token::Token;
 use crate::{BlifFault, Design};
 use net_core::key_of;
 use std::alloc::{AllocError, Global};
-use text_core::tokens;
 
 // The bytes from `!` to `~` with which a token begins.
 fn printing_front(token: &[u8]) -> &[u8]
@@ -27,14 +27,13 @@ fn printing_front(token: &[u8]) -> &[u8]
     token
 }
 
-// The bytes from `!` to `~` with which a line begins.
-fn first_word<'a>(alloc: Global, line: &'a [u8]) -> Result<&'a [u8], AllocError>
-    ensures { IfOk result (λ word. word.now ≡ first_word_of (tokens_of line.now)) }
+// The bytes from `!` to `~` with which a line of these tokens begins.
+fn first_word<'a>(words: &[Token<'a>]) -> &'a [u8]
+    ensures { result.now ≡ first_word_of words.now }
 {
-    let tokens = tokens(alloc, line)?;
-    match tokens.as_slice() {
-        [token, ..] => Ok(printing_front(*token)),
-        [] => Ok(&line[..0]),
+    match words {
+        [word, ..] => printing_front(word.bytes()),
+        [] => &[],
     }
 }
 
@@ -52,11 +51,11 @@ fn has_model(alloc: Global, text: &[u8]) -> Result<bool, AllocError>
     requires { length text.now ≤ 67108864 }
     ensures { IfOk result (λ has. has ≡ begins (lines_of text.now)) }
 {
-    let mut line = Vec::new(alloc);
+    let mut words = Vec::new(alloc);
     let mut rest = text;
     while !rest.is_empty() {
-        let (after, _) = next_joined(rest, &mut line)?;
-        let word = first_word(alloc, &line)?;
+        let (after, _) = next_joined(alloc, rest, &mut words)?;
+        let word = first_word(&words);
         if begins_with_dot(word) {
             return Ok(word == b".model".as_slice());
         }
@@ -66,18 +65,17 @@ fn has_model(alloc: Global, text: &[u8]) -> Result<bool, AllocError>
 }
 
 // What the first line of a text says: the text after it, and the count of its physical lines. A line that stands alone is
-// read where it stands, with its tokens in `words`, and another is joined in `line`.
+// read where it stands; the tokens of the line are left in `words`.
 fn read_first<'a>(
-    reader: &mut Reader,
+    reader: &mut Reader<'a>,
     alloc: Global,
     number: u32,
     text: &'a [u8],
     words: &mut Vec<Token<'a>>,
-    line: &mut Vec<u8>,
 ) -> Result<(&'a [u8], u32), BlifFault>
     requires some { 0 < length text.now }
     requires few { length text.now ≤ 67108864 }
-    ensures read { IfOk result (λ r. (outcome : Result Reading BlifFault) → Reads reader.new (joined (number + r.1) (lines r.0.now)) outcome → Reads reader.old (joined number (lines text.now)) outcome) }
+    ensures read { IfOk result (λ r. ReadsOn reader.old number text.now reader.new (number + r.1) r.0.now) }
     ensures fault { IfErr result (λ e. (e ≡ BlifFault.OutOfMemory) ⊎ Reads reader.old (joined number (lines text.now)) (Err e)) }
     ensures count { IfOk result (λ r. length r.0.now + r.1 ≤ length text.now) }
     ensures shorter { IfOk result (λ r. length r.0.now < length text.now) }
@@ -86,24 +84,26 @@ fn read_first<'a>(
         reader.read_words(alloc, number, words)?;
         return Ok((after, 1));
     }
-    let (after, count) = next_joined(text, line)?;
-    reader.read_line(alloc, number, line)?;
+    let (after, count) = next_joined(alloc, text, words)?;
+    if !are_tokens(words) {
+        return Err(BlifFault::Syntax { line: number });
+    }
+    reader.read_words(alloc, number, words)?;
     Ok((after, count))
 }
 
 // What the lines of a text say, one after another.
-fn read_lines(alloc: Global, text: &[u8]) -> Result<Reader, BlifFault>
+fn read_lines(alloc: Global, text: &[u8]) -> Result<Reader<'_>, BlifFault>
     requires { length text.now ≤ 67108864 }
     ensures read { IfOk result (λ reader. Reads start (lines_of text.now) (Ok reader)) }
     ensures fault { IfErr result (λ e. (e ≡ BlifFault.OutOfMemory) ⊎ Reads start (lines_of text.now) (Err e)) }
 {
     let mut reader = Reader::new(alloc, key_of(text));
     let mut words = Vec::new(alloc);
-    let mut line = Vec::new(alloc);
     let mut rest = text;
     let mut number = 1u32;
     while !rest.is_empty() {
-        let (after, count) = read_first(&mut reader, alloc, number, rest, &mut words, &mut line)?;
+        let (after, count) = read_first(&mut reader, alloc, number, rest, &mut words)?;
         rest = after;
         number += count;
     }

@@ -1,7 +1,7 @@
 //! What was read of a text, line by line.
 ghost use Rattle.std.specs.Prelude.{◌≡◌, ◌⊎◌, ◌≤◌, ◌∷◌, [], None, Some, Ok, Err, length, IfOk, IfErr, OnOk, All, IsTrue};
 ghost use Rattle.std.specs.List.{list_all};
-ghost use Rattle.text_core.specs.Lines.{tokens_of, IsPrinting};
+ghost use Rattle.text_core.specs.Lines.{IsPrinting};
 ghost use Rattle.net_blif.specs.Connection.{is_connection};
 ghost use Rattle.net_blif.specs.Statement.{IsToken};
 ghost use Rattle.net_blif.specs.Cover.{begun};
@@ -12,7 +12,7 @@ ghost use Rattle.net_blif.specs.Models.{in_model, with_cover_row, with_items, mo
 use crate::BlifFault;
 use crate::model_list::ModelList;
 use crate::open_model::OpenModel;
-use crate::spelling::{read_statement, words};
+use crate::spelling::read_statement;
 use crate::statement::{Statement, start_of};
 use crate::token::Token;
 use net_core::{Name, Start};
@@ -23,12 +23,12 @@ use text_core::printing_text;
 
 /// The models that have ended, and the one whose lines are being read.
 #[derive(Drop)]
-pub struct Reader {
+pub struct Reader<'a> {
     design: ModelList,
-    model: Option<OpenModel>,
+    model: Option<OpenModel<'a>>,
 }
 
-impl Model for Reader {
+impl<'a> Model for Reader<'a> {
     ghost use Rattle.net_blif.specs.Models.{Reading};
 
     ghost Value = { Reading };
@@ -36,9 +36,9 @@ impl Model for Reader {
     ghost view = { λ r. record { models = r.design; model = r.model } };
 }
 
-impl Reader {
+impl<'a> Reader<'a> {
     /// Nothing was read of a text with this key. It takes no memory.
-    pub fn new(alloc: Global, key: u64) -> Reader
+    pub fn new(alloc: Global, key: u64) -> Reader<'a>
         ensures { result ≡ start }
     {
         Reader {
@@ -62,7 +62,7 @@ impl Reader {
 
     /// The models, of which all lines were read.
     pub fn finish(self, alloc: Global) -> Result<ModelList, AllocError>
-        ensures { IfOk result (λ design. design ≡ models_of self) }
+        ensures { IfOk result (λ design. design ≡ models_of self.entry) }
     {
         let mut reader = self;
         reader.end(alloc)?;
@@ -168,7 +168,7 @@ impl Reader {
     }
 
     // Adds a row.
-    fn add_row(&mut self, pattern: &[u8], output: bool) -> Result<(), AllocError>
+    fn add_row(&mut self, pattern: &'a [u8], output: bool) -> Result<(), AllocError>
         ensures { OnOk result (self.new ≡ in_model (with_cover_row pattern.now output) self.old) }
     {
         if let Some(model) = &mut self.model {
@@ -178,7 +178,12 @@ impl Reader {
     }
 
     // Begins a cover of these nets.
-    fn begin_cover(&mut self, line: u32, inputs: &[Token<'_>], out: &[u8]) -> Result<(), AllocError>
+    fn begin_cover(
+        &mut self,
+        line: u32,
+        inputs: &[Token<'a>],
+        out: &'a [u8],
+    ) -> Result<(), AllocError>
         requires few { length inputs.now ≤ 6 }
         requires inputs { All IsToken inputs.now }
         requires out { IsToken out.now }
@@ -191,7 +196,7 @@ impl Reader {
     }
 
     // Begins a cover of these nets, if they are few.
-    fn cover(&mut self, line: u32, inputs: &[Token<'_>], out: &[u8]) -> Result<(), BlifFault>
+    fn cover(&mut self, line: u32, inputs: &[Token<'a>], out: &'a [u8]) -> Result<(), BlifFault>
         requires inputs { All IsToken inputs.now }
         requires out { IsToken out.now }
         ensures read { OnOk result (next_reading self.old line (Statement.Cover inputs.now out.now) ≡ Ok self.new) }
@@ -210,7 +215,7 @@ impl Reader {
         &mut self,
         alloc: Global,
         line: u32,
-        statement: &Statement<'_, '_>,
+        statement: &Statement<'_, 'a>,
     ) -> Result<(), BlifFault>
         requires { HasPrintingNames statement.now }
         ensures read { OnOk result (next_reading self.old line statement.now ≡ Ok self.new) }
@@ -243,7 +248,7 @@ impl Reader {
         &mut self,
         alloc: Global,
         line: u32,
-        words: &[Token<'_>],
+        words: &[Token<'a>],
     ) -> Result<(), BlifFault>
         requires { All IsToken words.now }
         ensures read { OnOk result (ReadsLine self.old line words.now (Ok self.new)) }
@@ -259,18 +264,6 @@ impl Reader {
             return Err(BlifFault::Syntax { line });
         }
         self.next(alloc, line, &statement)?;
-        Ok(())
-    }
-
-    /// Adds what one more line says. After an error the reader is not used again.
-    pub fn read_line(&mut self, alloc: Global, line: u32, bytes: &[u8]) -> Result<(), BlifFault>
-        ensures read { OnOk result (ReadsLine self.old line (tokens_of bytes.now) (Ok self.new)) }
-        ensures fault { IfErr result (λ e. (e ≡ BlifFault.OutOfMemory) ⊎ ReadsLine self.old line (tokens_of bytes.now) (Err e)) }
-    {
-        let Some(words) = words(alloc, bytes)? else {
-            return Err(BlifFault::Syntax { line });
-        };
-        self.read_words(alloc, line, &words)?;
         Ok(())
     }
 }

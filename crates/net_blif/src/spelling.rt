@@ -1,5 +1,5 @@
-//! How a line is read: its words, and the statement that they spell.
-ghost use Rattle.std.specs.Prelude.{◌≡◌, ◌↔◌, ◌∷◌, [], All, IsTrue, IfOk, IfSome, IfNone, if◌then◌else◌};
+//! The words of a line, and the statement that they spell.
+ghost use Rattle.std.specs.Prelude.{◌≡◌, ◌↔◌, ◌∷◌, [], All, IsTrue, IfOk, if◌then◌else◌};
 ghost use Rattle.text_core.specs.Lines.{tokens_of};
 ghost use Rattle.net_blif.specs.Statement.{IsToken, is_dotted as dotted};
 ghost use Rattle.net_blif.specs.Spelling.{bit_of as bit_that, cover_of, dotted_of, end_of, instance_of, latch_of, model_of, row_of, statement_of};
@@ -16,8 +16,8 @@ fn is_token(token: &[u8]) -> bool
     !token.is_empty() && token.len() <= 255 && is_printing(token)
 }
 
-// What stands between the spaces and tabs of a line.
-fn all_words<'a>(alloc: Global, line: &'a [u8]) -> Result<Vec<Token<'a>>, AllocError>
+/// What stands between the spaces and tabs of a line.
+pub fn all_words<'a>(alloc: Global, line: &'a [u8]) -> Result<Vec<Token<'a>>, AllocError>
     ensures { IfOk result (λ words. words.items ≡ tokens_of line.now) }
 {
     line.split(|&b| b == b' ' || b == b'\t')
@@ -26,23 +26,11 @@ fn all_words<'a>(alloc: Global, line: &'a [u8]) -> Result<Vec<Token<'a>>, AllocE
         .collect(alloc)
 }
 
-// Whether each has 1 to 255 bytes that print.
-fn are_tokens(words: &[Token<'_>]) -> bool
+/// Whether each has 1 to 255 bytes that print.
+pub fn are_tokens(words: &[Token<'_>]) -> bool
     ensures { IsTrue result ↔ All IsToken words.now }
 {
     words.iter().all(|word| is_token(word.bytes()))
-}
-
-/// The tokens of a line, if each has 1 to 255 bytes and all of them print.
-pub fn words<'a>(alloc: Global, line: &'a [u8]) -> Result<Option<Vec<Token<'a>>>, AllocError>
-    ensures found { IfOk result (λ found. IfSome found (λ words. (words.items ≡ tokens_of line.now) × All IsToken words.items)) }
-    ensures none { IfOk result (λ found. IfNone found (All IsToken (tokens_of line.now) → ⊥)) }
-{
-    let words = all_words(alloc, line)?;
-    if !are_tokens(&words) {
-        return Ok(None);
-    }
-    Ok(Some(words))
 }
 
 // The bit that a token says.

@@ -79,14 +79,6 @@ impl TokenList {
         }
     }
 
-    /// No tokens any more; the memory stays.
-    pub fn clear(&mut self)
-        ensures { self.new ≡ [] }
-    {
-        self.spans.clear();
-        self.text.clear();
-    }
-
     /// How many tokens there are.
     pub fn len(&self) -> usize
         ensures { result ≡ length self.now }
@@ -142,17 +134,6 @@ impl TokenList {
     {
         for token in tokens {
             self.push(token.bytes())?;
-        }
-        Ok(())
-    }
-
-    /// The tokens of another list at the end.
-    pub fn append(&mut self, tokens: &TokenSlice<'_>) -> Result<(), AllocError>
-        ensures made { OnOk result (self.new ≡ self.old ++ tokens.now) }
-        ensures grows { (more : List (List ℕ)) × (self.new ≡ self.old ++ more) }
-    {
-        for place in 0..tokens.len() {
-            self.push(tokens.get(place))?;
         }
         Ok(())
     }

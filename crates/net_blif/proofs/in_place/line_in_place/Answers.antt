@@ -3,7 +3,7 @@ use Rattle.std.specs.Prelude.{All}
 use Rattle.text_core.specs.Lines.{is_blank}
 use Rattle.net_blif.specs.Lines.{goes_on}
 use Rattle.net_blif.specs.Statement.{IsToken, Token}
-use Rattle.net_blif.specs.private.InPlace.{as_word, StandsAlone}
+use Rattle.net_blif.specs.private.FirstLine.{as_word, StandsAlone}
 use Rattle.net_blif.proofs.InPlaceLemmas.{with_word, word_before, word_last}
 use Rattle.net_blif.proofs.in_place.line_in_place.Goals as goal
 

@@ -1,7 +1,7 @@
 use Rattle.std.proofs.Common.{ℕ, ◌≤◌, ◌++◌, List, length}
 use Rattle.std.specs.Prelude.{All}
 use Rattle.net_blif.specs.Statement.{IsToken, Token}
-use Rattle.net_blif.specs.private.InPlace.{StandsAlone}
+use Rattle.net_blif.specs.private.FirstLine.{StandsAlone}
 use Rattle.net_blif.proofs.in_place.line_in_place.Given as goal
 
 -- where what is left begins with a line that stands alone, the text does, with the words so far before those of that line

@@ -1,13 +1,12 @@
-use Rattle.std.proofs.Common.{◌≡◌, ◌+◌, ◌∷◌, ◌<◌, ◌≤◌, ℕ, length, cond}
-use Rattle.std.specs.Str.Lines.{lines}
-use Rattle.net_blif.specs.Lines.{join_first, joined}
+use Rattle.std.proofs.Common.{◌+◌, ◌<◌, ◌≤◌, length}
+use Rattle.net_blif.specs.private.FirstLine.{BeginsSo}
 use Rattle.net_blif.proofs.lines.next_joined.Given as goal
 
--- the line so far, which what is left may go on, is the first of the text
+-- the tokens so far, to which those of what is left may belong
 abbrev pub invariant-loop-goes_on : goal.invariant-loop-goes_on
 invariant-loop-goes_on l =
     record {
-      line : (n : ℕ) → joined n (lines l.text) ≡ cond l.goes_on (join_first n l.line.items (joined (n + l.count) (lines l.rest))) ((n, l.line.items) ∷ joined (n + l.count) (lines l.rest));
+      begins : BeginsSo l.text l.words.items l.count l.goes_on l.rest;
       count : length l.rest + l.count ≤ length l.text;
       shorter : length l.rest < length l.text;
     }

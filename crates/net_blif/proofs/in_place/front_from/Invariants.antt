@@ -1,6 +1,6 @@
 use Rattle.std.proofs.Common.{ℕ, ◌<◌, get_or}
-use Rattle.net_blif.specs.private.InPlace.{IsWordByte}
-use Rattle.net_blif.proofs.in_place.front_of.Given as goal
+use Rattle.net_blif.specs.private.FirstLine.{IsWordByte}
+use Rattle.net_blif.proofs.in_place.front_from.Given as goal
 
 -- the bytes so far belong to a word
 abbrev pub invariant-loop-i : goal.invariant-loop-i
