@@ -17,13 +17,13 @@ use std::marker::Model;
 /// was mentioned last is kept with its number: a gate often reads what was driven just before, and such a name is not
 /// looked up.
 #[derive(Drop)]
-pub struct Namer {
+pub struct Namer<'a> {
     maker: NetMaker,
-    last: Vec<u8>,
+    last: &'a [u8],
     number: Option<u32>,
 }
 
-impl Model for Namer {
+impl<'a> Model for Namer<'a> {
     ghost use Rattle.std.specs.Prelude.{◌≡◌, Some, IfSome};
     ghost use Rattle.net_core.specs.NetList.{NetList, number_of};
 
@@ -31,7 +31,7 @@ impl Model for Namer {
 
     ghost view = { λ m. m.maker };
 
-    ghost invariant = { λ m. IfSome m.number (λ n. number_of m.maker m.last.items ≡ Some n) };
+    ghost invariant = { λ m. IfSome m.number (λ n. number_of m.maker m.last.now ≡ Some n) };
 }
 
 // The number of the net of a name of the chosen model, which is made if it is new.
@@ -54,21 +54,21 @@ pub fn is_same(name: &[u8], other: &[u8]) -> bool
     name == other
 }
 
-impl Namer {
+impl<'a> Namer<'a> {
     /// A net list with nothing in it, which looks names up by a hash with this key. It takes no memory.
-    pub fn keyed(alloc: Global, key: u64) -> Namer
+    pub fn keyed(alloc: Global, key: u64) -> Namer<'a>
         ensures { result ≡ empty }
     {
         Namer {
             maker: NetMaker::keyed(alloc, key),
-            last: Vec::new(alloc),
+            last: &[],
             number: None,
         }
     }
 
     /// The net list.
     pub fn into_maker(self) -> NetMaker
-        ensures { result ≡ self }
+        ensures { result ≡ self.entry }
     {
         self.maker
     }
@@ -77,7 +77,7 @@ impl Namer {
     fn known(&self, name: &[u8]) -> Option<u32>
         ensures { IfSome result (λ n. number_of self.now name.now ≡ Some n) }
     {
-        if is_same(&self.last, name) {
+        if is_same(self.last, name) {
             self.number
         } else {
             None
@@ -85,15 +85,12 @@ impl Namer {
     }
 
     // Keeps the name that was mentioned last.
-    fn keep(&mut self, name: &[u8], number: u32) -> Result<(), AllocError>
+    fn keep(&mut self, name: &'a [u8], number: u32)
         requires { number_of self.old name.now ≡ Some number }
         ensures { self.new ≡ self.old }
     {
-        self.number = None;
-        self.last.clear();
-        self.last.extend_from_slice(name)?;
+        self.last = name;
         self.number = Some(number);
-        Ok(())
     }
 
     // The number of the net of a name that is looked up, and made if it is new.
@@ -108,7 +105,7 @@ impl Namer {
     }
 
     /// The number of the net of a name of the chosen model, which is made if it is new.
-    pub fn mention(&mut self, name: &[u8]) -> Result<u32, FlatFault>
+    pub fn mention(&mut self, name: &'a [u8]) -> Result<u32, FlatFault>
         requires { IsToken name.now }
         ensures number { IfOk result (λ n. number_of self.new name.now ≡ Some n) }
         ensures made { (i : ℕ) → OnOk result (local_step (state_with self.old i InTop) (Mention name.now) ≡ Ok (state_with self.new i InTop)) }
@@ -118,7 +115,7 @@ impl Namer {
             return Ok(number);
         }
         let number = self.look_up(name)?;
-        self.keep(name, number)?;
+        self.keep(name, number);
         Ok(number)
     }
 

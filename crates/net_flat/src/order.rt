@@ -34,11 +34,11 @@ impl Order {
         self.next = 0;
     }
 
-    /// Where the next name stood.
+    /// Where the next name stood, or past all places.
     pub fn hint(&self) -> usize {
         match self.places.get(self.next) {
             Some(place) => *place as usize,
-            None => 0,
+            None => usize::MAX,
         }
     }
 

@@ -15,9 +15,9 @@ use net_core::Start;
 
 const MAX_INSTANCES: u32 = 1 << 20;
 
-impl Walker {
+impl<'a> Walker<'a> {
     // Mentions a name, and makes its net a primary input in the chosen model.
-    fn place_input(&mut self, name: &[u8]) -> Result<(), FlatFault>
+    fn place_input(&mut self, name: &'a [u8]) -> Result<(), FlatFault>
         requires name { IsToken name.now }
         requires inside { AreInside (state_of self.old) }
         ensures made { OnOk result (local_walked (state_of self.old) (input_steps (is_in_top (state_of self.old).local) name.now) ≡ Ok (state_of self.new)) }
@@ -35,7 +35,7 @@ impl Walker {
     }
 
     // Mentions a name, and makes its net an output in the chosen model.
-    fn place_output(&mut self, name: &[u8]) -> Result<(), FlatFault>
+    fn place_output(&mut self, name: &'a [u8]) -> Result<(), FlatFault>
         requires name { IsToken name.now }
         requires inside { AreInside (state_of self.old) }
         ensures made { OnOk result (local_walked (state_of self.old) (output_steps (is_in_top (state_of self.old).local) name.now) ≡ Ok (state_of self.new)) }
@@ -52,7 +52,7 @@ impl Walker {
         Ok(())
     }
 
-    fn place_inputs(&mut self, names: &TokenSlice<'_>) -> Result<(), FlatFault>
+    fn place_inputs(&mut self, names: &TokenSlice<'a>) -> Result<(), FlatFault>
         requires names { All IsToken names.now }
         requires inside { AreInside (state_of self.old) }
         ensures made { OnOk result (local_walked (state_of self.old) (flat_map (input_steps (is_in_top (state_of self.old).local)) names.now) ≡ Ok (state_of self.new)) }
@@ -65,7 +65,7 @@ impl Walker {
         Ok(())
     }
 
-    fn place_outputs(&mut self, names: &TokenSlice<'_>) -> Result<(), FlatFault>
+    fn place_outputs(&mut self, names: &TokenSlice<'a>) -> Result<(), FlatFault>
         requires names { All IsToken names.now }
         requires inside { AreInside (state_of self.old) }
         ensures made { OnOk result (local_walked (state_of self.old) (flat_map (output_steps (is_in_top (state_of self.old).local)) names.now) ≡ Ok (state_of self.new)) }
@@ -79,7 +79,7 @@ impl Walker {
     }
 
     // Mentions names, whose numbers are then the list.
-    fn mention_all(&mut self, names: &TokenSlice<'_>) -> Result<(), FlatFault>
+    fn mention_all(&mut self, names: &TokenSlice<'a>) -> Result<(), FlatFault>
         requires names { All IsToken names.now }
         requires inside { AreInside (state_of self.old) }
         ensures numbers { OnOk result (self.new.inputs.items ≡ map (number_in (state_of self.new)) names.now) }
@@ -99,8 +99,8 @@ impl Walker {
     // Adds a gate on the nets of names.
     fn place_gate(
         &mut self,
-        inputs: &TokenSlice<'_>,
-        out: &[u8],
+        inputs: &TokenSlice<'a>,
+        out: &'a [u8],
         table: u64,
     ) -> Result<(), FlatFault>
         requires inputs { All IsToken inputs.now }
@@ -121,7 +121,7 @@ impl Walker {
     }
 
     // Adds a latch on the nets of names.
-    fn place_latch(&mut self, next: &[u8], out: &[u8], start: Start) -> Result<(), FlatFault>
+    fn place_latch(&mut self, next: &'a [u8], out: &'a [u8], start: Start) -> Result<(), FlatFault>
         requires next { IsToken next.now }
         requires out { IsToken out.now }
         requires inside { AreInside (state_of self.old) }
@@ -152,7 +152,7 @@ impl Walker {
     }
 
     // Mentions the actual of a connection.
-    fn place_actual(&mut self, connection: &[u8]) -> Result<u32, FlatFault>
+    fn place_actual(&mut self, connection: &'a [u8]) -> Result<u32, FlatFault>
         requires connection { IsToken connection.now }
         requires sides { IsTrue (is_connection connection.now) }
         requires inside { AreInside (state_of self.old) }
@@ -167,7 +167,7 @@ impl Walker {
     }
 
     // Mentions the actuals of connections, whose numbers are then the list.
-    fn place_actuals(&mut self, connections: &TokenSlice<'_>) -> Result<(), FlatFault>
+    fn place_actuals(&mut self, connections: &TokenSlice<'a>) -> Result<(), FlatFault>
         requires connections { All IsToken connections.now }
         requires sides { IsTrue (list_all is_connection connections.now) }
         requires inside { AreInside (state_of self.old) }
@@ -186,7 +186,7 @@ impl Walker {
     }
 
     /// Goes into an instance and mentions what is connected, whose numbers are then the list.
-    pub fn place_instance(&mut self, connections: &TokenSlice<'_>) -> Result<(), FlatFault>
+    pub fn place_instance(&mut self, connections: &TokenSlice<'a>) -> Result<(), FlatFault>
         requires connections { All IsToken connections.now }
         requires sides { IsTrue (list_all is_connection connections.now) }
         requires inside { AreInside (state_of self.old) }
@@ -202,7 +202,7 @@ impl Walker {
     }
 
     /// Places what a line says; the body of an instance is left.
-    pub fn place(&mut self, item: &Item<'_>) -> Result<(), FlatFault>
+    pub fn place(&mut self, item: &Item<'a>) -> Result<(), FlatFault>
         requires sound { IsSoundItem item.now }
         requires inside { AreInside (state_of self.old) }
         ensures made { OnOk result (local_walked (state_of self.old) (steps_of (is_in_top (state_of self.old).local) item.now) ≡ Ok (state_of self.new)) }

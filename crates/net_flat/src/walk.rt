@@ -1,5 +1,5 @@
 //! The walk through instances.
-ghost use Rattle.std.specs.Prelude.{◌≡◌, ◌<◌, ◌+◌, ◌^◌, ◌++◌, ◌∷◌, Ok, Some, None, All, IsTrue, IfOk, IfErr, IfSome, IfNone, OnOk, codes, map, string_bytes};
+ghost use Rattle.std.specs.Prelude.{◌≡◌, ℕ, ◌<◌, ◌+◌, ◌^◌, ◌++◌, ◌∷◌, Ok, Some, None, All, IsTrue, IfOk, IfErr, IfSome, IfNone, OnOk, codes, map, string_bytes};
 ghost use Rattle.std.specs.Fmt.{decimal};
 ghost use Rattle.std.specs.List.{list_all};
 ghost use Rattle.net_blif.specs.Connection.{actual_of, is_connection};
@@ -11,7 +11,7 @@ ghost use Rattle.net_flat.specs.Steps.{Enter, actual_steps};
 ghost use Rattle.net_flat.specs.Walk.{next_number};
 ghost use Rattle.net_flat.specs.private.KnownNumbers.{known_in};
 ghost use Rattle.net_flat.specs.private.LocalScope.{local_in};
-ghost use Rattle.net_flat.specs.private.LocalWalk.{AreInside, IsFaultOf, entered, local_line, local_walked, local_within, number_in, numbers_of as numbers_of_actuals, prefix_in};
+ghost use Rattle.net_flat.specs.private.LocalWalk.{AreInside, IsFaultOf, entered, local_instance, local_line, local_walked, local_within, number_in, numbers_of as numbers_of_actuals, prefix_in};
 ghost use Rattle.net_flat.specs.private.WalkerState.{state_of};
 ghost use Rattle.net_flat.specs.private.Entering.{HasEntered, HasMentioned};
 
@@ -34,7 +34,7 @@ fn met_with(met: u64, item: &Item<'_>) -> u64
     }
 }
 
-impl Walker {
+impl<'a> Walker<'a> {
     // The names of a model with the numbers of an instance's formals, from the list of the numbers of its actuals.
     fn formals(
         &self,
@@ -90,10 +90,10 @@ impl Walker {
     // Mentions what is connected to an instance, and goes into it, if its model is there: gives the scope to come back to.
     fn enter(
         &mut self,
-        design: &Design,
+        design: &'a Design,
         number: u64,
         name: &[u8],
-        connections: &TokenSlice<'_>,
+        connections: &TokenSlice<'a>,
     ) -> Result<Option<(u32, Scope)>, FlatFault>
         requires name { IsToken name.now }
         requires connections { All IsToken connections.now }
@@ -114,13 +114,42 @@ impl Walker {
         Ok(Some((model, outer)))
     }
 
+    // Goes into an instance, and walks the body of its model.
+    #[cycle(walk)]
+    fn instance(
+        &mut self,
+        design: &'a Design,
+        number: u64,
+        name: &[u8],
+        connections: &TokenSlice<'a>,
+        depth: u32,
+    ) -> Result<(), FlatFault>
+        requires name { IsToken name.now }
+        requires connections { All IsToken connections.now }
+        requires sides { IsTrue (list_all is_connection connections.now) }
+        requires inside { AreInside (state_of self.old) }
+        ensures made { (line : ℕ) → OnOk result (local_instance depth design.now (state_of self.old) number name.now connections.now line ≡ Ok (state_of self.new)) }
+        ensures inside { OnOk result (AreInside (state_of self.new)) }
+        ensures fault { (line : ℕ) → IfErr result (IsFaultOf (local_instance depth design.now (state_of self.old) number name.now connections.now line)) }
+    {
+        let Some((inside, outer)) = self.enter(design, number, name, connections)? else {
+            return Ok(());
+        };
+        self.walk(design, inside, depth)?;
+        let none = KnownNames::new(self.alloc, self.key);
+        let names = mem::replace(&mut self.scope.numbers, none);
+        self.scope = outer;
+        self.kept.keep(inside, names);
+        Ok(())
+    }
+
     // Walks a line, and the body of its instance.
     #[cycle(walk)]
     fn line(
         &mut self,
-        design: &Design,
+        design: &'a Design,
         number: u64,
-        item: &Item<'_>,
+        item: &Item<'a>,
         depth: u32,
     ) -> Result<(), FlatFault>
         requires sound { IsSoundItem item.now }
@@ -137,20 +166,12 @@ impl Walker {
         else {
             return self.place(item);
         };
-        let Some((inside, outer)) = self.enter(design, number, model.bytes(), connections)? else {
-            return Ok(());
-        };
-        self.walk(design, inside, depth)?;
-        let none = KnownNames::new(self.alloc, self.key);
-        let names = mem::replace(&mut self.scope.numbers, none);
-        self.scope = outer;
-        self.kept.keep(inside, names);
-        Ok(())
+        self.instance(design, number, model.bytes(), connections, depth)
     }
 
     /// Walks the lines of a model, through at most so many models one inside another.
     #[cycle(walk)]
-    pub fn walk(&mut self, design: &Design, model: u32, depth: u32) -> Result<(), FlatFault>
+    pub fn walk(&mut self, design: &'a Design, model: u32, depth: u32) -> Result<(), FlatFault>
         requires { AreInside (state_of self.old) }
         ensures made { OnOk result (local_within depth design.now (state_of self.old) model ≡ Ok (state_of self.new)) }
         ensures inside { OnOk result (AreInside (state_of self.new)) }

@@ -20,10 +20,10 @@ use std::alloc::{AllocError, Global};
 /// The numbers of a gate's inputs stand in a list that is used again, as the label of a new net does. What is known of
 /// the names of a model is kept for the next walk over it.
 #[derive(Drop)]
-pub struct Walker {
+pub struct Walker<'a> {
     pub alloc: Global,
     pub key: u64,
-    pub maker: Namer,
+    pub maker: Namer<'a>,
     pub instances: u32,
     pub scope: Scope,
     pub inputs: Vec<u32>,
@@ -54,7 +54,7 @@ fn write_label(label: &mut String, prefix: &str, name: &str) -> Result<(), Alloc
 // The number of the net of a new name in an instance with this prefix, which is made.
 fn add_inside(
     label: &mut String,
-    maker: &mut Namer,
+    maker: &mut Namer<'_>,
     prefix: &str,
     numbers: &mut KnownNames,
     name: &[u8],
@@ -77,7 +77,7 @@ fn add_inside(
 // The number of the net of a name in an instance with this prefix, which is made if it is new.
 fn mention_inside(
     label: &mut String,
-    maker: &mut Namer,
+    maker: &mut Namer<'_>,
     prefix: &str,
     numbers: &mut KnownNames,
     name: &[u8],
@@ -93,9 +93,9 @@ fn mention_inside(
     }
 }
 
-impl Walker {
+impl<'a> Walker<'a> {
     /// Before the first line of the chosen model. Names are hashed with this key. It takes no memory.
-    pub fn new(alloc: Global, key: u64) -> Walker
+    pub fn new(alloc: Global, key: u64) -> Walker<'a>
         ensures { state_of result ≡ state_with empty 0 InTop }
     {
         Walker {
@@ -116,13 +116,13 @@ impl Walker {
 
     /// The net list.
     pub fn into_maker(self) -> NetMaker
-        ensures { result ≡ (state_of self).net }
+        ensures { result ≡ (state_of self.entry).net }
     {
         self.maker.into_maker()
     }
 
     /// The number of the net of a name, which is made if it is new.
-    pub fn mention(&mut self, name: &[u8]) -> Result<u32, FlatFault>
+    pub fn mention(&mut self, name: &'a [u8]) -> Result<u32, FlatFault>
         requires name { IsToken name.now }
         requires inside { AreInside (state_of self.old) }
         ensures number { IfOk result (λ n. found (state_of self.new) name.now ≡ Some n) }

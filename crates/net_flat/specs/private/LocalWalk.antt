@@ -130,6 +130,10 @@ unfoldable pub local_within : ℕ → List ModelValue → State → ℕ → Resu
 local_within zero design state model = Ok state
 local_within (suc depth) design state model = local_lines (local_within depth design) design state 1 (items_of design model)
 
+-- an instance, and then its body, through at most so many models one inside another
+abbrev pub local_instance : ℕ → List ModelValue → State → ℕ → Token → List Token → ℕ → Result State FlatFault
+local_instance depth design state number name connections line = local_line (local_within depth design) design state number (items.Instance line name connections)
+
 -- each name has a net
 abbrev pub HasEach : State → List Token → Type 0
 HasEach state names = All (λ name. (n : ℕ) × (found state name ≡ Some n)) names

@@ -4,10 +4,13 @@ use Rattle.net_flat.specs.private.WalkerState.{state_of}
 use Rattle.net_flat.proofs.walker.Walker.+walk.Given as goal
 
 abbrev pub decreases-line : goal.decreases-line
-decreases-line l = 2 * l.depth + 2
+decreases-line l = 3 * l.depth + 3
+
+abbrev pub decreases-instance : goal.decreases-instance
+decreases-instance l = 3 * l.depth + 2
 
 abbrev pub decreases-walk : goal.decreases-walk
-decreases-walk l = 2 * l.depth + 1
+decreases-walk l = 3 * l.depth + 1
 
 -- the walk over all lines is that over what is left
 abbrev pub invariant-walk-loop-place : goal.invariant-walk-loop-place
