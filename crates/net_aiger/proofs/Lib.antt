@@ -1,10 +1,10 @@
 pub mod PortOrder
 mod NumberLemmas
-mod NameLemmas
+pub mod NameLemmas
 pub mod MakeLemmas
 pub mod AwaitLemmas
 pub mod DriveLemmas
-mod KeepLemmas
+pub mod KeepLemmas
 mod EntryLemmas
 mod LineLemmas
 mod SectionLemmas
@@ -16,5 +16,5 @@ pub mod AigerDetermined
 mod ValueLemmas
 mod PlainLemmas
 mod LiteralLemmas
-mod PortLemmas
+pub mod PortLemmas
 mod Examples

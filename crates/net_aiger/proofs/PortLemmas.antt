@@ -30,7 +30,7 @@ abbrev pub Carries : Reading → List GateValue → ℕ → ℕ → Type 0
 Carries reading gates n literal = (net_of reading literal ≡ Some n) ⊎ Has gates (literal_gate reading n literal)
 
 module _ (reading : Reading) where
-  own_is : (port literal n : ℕ) → own reading port literal ≡ Some n → net_of reading literal ≡ Some n
+  pub own_is : (port literal n : ℕ) → own reading port literal ≡ Some n → net_of reading literal ≡ Some n
   own_is port literal n is = by (nat_lt port (driven reading.header)) is
     where
       third : (b : Bool) (m : ℕ) → cond b (Some m) None ≡ Some n → ◌≡◌ {A = Option ℕ} (Some m) (Some n)

@@ -23,15 +23,20 @@ use Rattle.net_core.proofs.DriverLemmas.{driver_of, gates_apart, gate_inside, so
 use Rattle.net_core.proofs.LevelLemmas.{level_within, known_at, known_over, level_set_same, level_set_other, level_from_above, partial_set, lacking_set, all_found, right_level, first_partial, sources_inside}
 use Rattle.net_core.proofs.EvalLemmas.{bit_set_same, bit_set_other, index_set, index_agree, same_lists, some_level, value_of}
 
-abbrev unmet : Bool → ℕ
+abbrev pub unmet : Bool → ℕ
 unmet false = 1
 unmet true = 0
 
-abbrev count_unmet : List Bool → ℕ
+abbrev pub count_unmet : List Bool → ℕ
 count_unmet seen = sum_by unmet seen
 
-unmet_set : (seen : List Bool) (at : ℕ) → slice_get seen at ≡ Some false → count_unmet (set seen at true) + 1 ≡ count_unmet seen
+pub unmet_set : (seen : List Bool) (at : ℕ) → slice_get seen at ≡ Some false → count_unmet (set seen at true) + 1 ≡ count_unmet seen
 unmet_set seen at new = omega (arith, sum_by-set_at unmet seen at false true new)
+
+pub none_met : (n k : ℕ) → slice_get (replicate n false) k ≡ Some true → ⊥
+none_met zero k got = cc
+none_met (suc n) zero got = cc
+none_met (suc n) (suc k) got = none_met n k got
 
 known_cons : (levels : Levels) (n l : ℕ) (ns : List ℕ) → level_at levels n ≡ Some l → AreKnown levels ns → AreKnown levels (n ∷ ns)
 known_cons levels n l ns is rest zero m got none =
@@ -201,11 +206,6 @@ grow net start sound (suc fuel) levels done bits few begun =
           let within : g.0.out < length levels = omega (arith, (gate_inside net g.0 sound.inside g.1).0, begun.partial.long) in
           grow net start sound fuel (set levels g.0.out (Some v.0)) (done + 1) (set bits g.0.out (value_of bits g.0)) (omega (arith, lacking_set levels g.0.out v.0 (known_at levels g.0.out None within g.2))) (begun_more net start levels done bits g.0 v.0 sound.inside sound.one begun g.1 g.2 g.3 v.1)
     ]
-  where
-    none_met : (n k : ℕ) → slice_get (replicate n false) k ≡ Some true → ⊥
-    none_met zero k got = cc
-    none_met (suc n) zero got = cc
-    none_met (suc n) (suc k) got = none_met n k got
 
 -- level 0 for the sources, and none for other nets
 zeros_of : List ℕ → ℕ → Levels

@@ -1,12 +1,10 @@
 -- The net list of what was read in AIGER stands on existing nets.
-use Rattle.std.proofs.Common.{◌≡◌, ap, refl, subst, ℕ, zero, suc, ◌<◌, ◌≤◌, ◌+◌, ◌-◌, ◌%◌, ◌^◌, ◌&&◌, Bool, true, false, cond, List, [], ◌∷◌, ◌++◌, length, drop, Option, None, Some, Result, Ok, Err, arith}
+use Rattle.std.proofs.Common.{◌≡◌, ap, refl, subst, ℕ, ◌<◌, ◌≤◌, ◌+◌, ◌-◌, ◌%◌, ◌^◌, Bool, true, false, cond, List, [], ◌∷◌, ◌++◌, length, drop, Option, None, Some, Result, Ok, Err, arith}
 use Rattle.std.specs.Prelude.{◌==◌, nat_eq, nat_le, nat_lt, unwrap_or, codes, All}
 use Rattle.std.specs.Fmt.{decimal}
 use Rattle.std.specs.Map.{lookup}
-use Rattle.std.specs.Str.{bytes_eq}
 use Rattle.std.proofs.lemmas.Bool.{leb-false, ltb-true}
-use Rattle.std.proofs.lemmas.Fmt.{length-decimal-le}
-use Rattle.std.proofs.lemmas.List.{length-append, length-drop}
+use Rattle.std.proofs.lemmas.List.{length-drop}
 use Rattle.std.proofs.lemmas.List.Elements.{All-append, All-cons}
 use Rattle.net_core.specs.GateValue.{GateValue}
 use Rattle.net_core.specs.LatchValue.{LatchValue}
@@ -15,7 +13,7 @@ use Rattle.net_core.specs.Inside.{GateIsInside, IsInside, IsNetName, LatchIsInsi
 use Rattle.net_core.specs.declared.fault.NetFault.{NetFault}
 use Rattle.net_core.specs.declared.fault.NetFault.TheVariants.{TooManyNets, TooManyGates}
 use Rattle.reader_laws.proofs.InsideLemmas.{empty_inside, with_fresh_inside, with_gate_inside, with_input_inside, with_latch_inside, with_named_inside, with_output_inside}
-use Rattle.net_aiger.specs.Checks.{apart, own, own_net}
+use Rattle.net_aiger.specs.Checks.{apart, own}
 use Rattle.net_aiger.specs.Nets.{and_gate, and_made, and_table, ands_made, fresh_latch, gated, inputs_of, is_plain, labelled, latch_made, latch_on, latched, latches_made, literal_gate, net_made, output_made, outputs_made, table_of, variable_made, variables_made, with_output}
 use Rattle.net_aiger.specs.Reading.{Name, Reading, default_name, driven, even, net_of, port_name, variable_net}
 use Rattle.net_aiger.specs.Steps.{◌>>=◌}
@@ -26,8 +24,10 @@ use Rattle.net_aiger.specs.private.Making.{Awaits, AwaitsPort}
 use Rattle.net_aiger.specs.private.Run.{is_complete}
 use Rattle.net_aiger.proofs.AwaitLemmas.{awaits_start, awaits_variable, name_is_new, outputs_awaited, port_is_new, ports_long}
 use Rattle.net_aiger.proofs.DriveLemmas.{split_ok}
-use Rattle.reader_laws.proofs.AigerKeeps.{ands_keep, awaits_kept, latches_keep, output_awaits}
+use Rattle.net_aiger.proofs.KeepLemmas.{ands_keep, awaits_kept, latches_keep, output_awaits}
 use Rattle.net_aiger.proofs.MakeLemmas.{gated_labels, labelled_nets, latched_is, position_below}
+use Rattle.net_aiger.proofs.NameLemmas.{default_fits, lookup_fits}
+use Rattle.net_aiger.proofs.PortLemmas.{own_is}
 use Rattle.net_aiger.proofs.PortOrder.{next_port}
 
 -- ---- names of ports
@@ -37,22 +37,6 @@ pub record IsNameable (reading : Reading) : Type 0 where
   pub complete : is_complete reading ≡ true
   pub symbols : All (λ (s : ℕ × Name). IsNetName s.1) reading.symbols
   pub few : length reading.ports < 2 ^ 64
-
--- a letter and a number make a name
-default_fits : (letter : Name) (n : ℕ) → length letter ≡ 1 → n < 2 ^ 64 → IsNetName (letter ++ decimal n)
-default_fits letter n single less =
-    let digits = length-decimal-le 20 n (omega arith) (omega (arith, less)) less in
-    let long = length-append letter (decimal n) in
-    (omega (arith, long, single), omega (arith, long, single, digits))
-
--- each name that was given is one of a net
-lookup_fits : (symbols : List (ℕ × Name)) (port : ℕ) (name : Name) → All (λ (s : ℕ × Name). IsNetName s.1) symbols → lookup (nat_eq port) symbols ≡ Some name → IsNetName name
-lookup_fits [] port name all found = absurd (cc)
-lookup_fits (s ∷ symbols) port name all found = by (lookup_fits symbols port name (λ k d less. all (suc k) d (omega arith))) (nat_eq port s.0) found
-  where
-    by : (lookup (nat_eq port) symbols ≡ Some name → IsNetName name) → (b : Bool) → cond b (Some s.1) (lookup (nat_eq port) symbols) ≡ Some name → IsNetName name
-    by later true e = let same : s.1 ≡ name = cc in let P : Name → Type 0 = IsNetName in subst P same (all zero s (omega arith))
-    by later false e = later e
 
 default_named : (header : Header) (port : ℕ) → port < 2 ^ 64 → IsNetName (default_name header port)
 default_named header port small = by (nat_lt port header.inputs) (nat_lt port (driven header))
@@ -274,23 +258,10 @@ module _ (reading : Reading) where
       let (next, one, rest) = split_ok (latch_made reading (net_of reading latch.literal) latch net) (λ m. latches_made reading lines m) more made in
       all_latches lines next more (one_latch (net_of reading latch.literal) latch net next fit refl one) rest
 
-  -- an input or a latch that an output is, has the output's literal
-  own_found : (port literal n : ℕ) → own reading port literal ≡ Some n → net_of reading literal ≡ Some n
-  own_found port literal n is = by (nat_lt port (driven reading.header)) (net_of reading literal) is
-    where
-      by_name : (k : ℕ) (b : Bool) → cond b (Some k) None ≡ Some n → Some k ≡ Some n
-      by_name k true e = e
-      by_name k false e = absurd (cc)
-
-      by : (b : Bool) (found : Option ℕ) → cond b None (own_net reading port found) ≡ Some n → found ≡ Some n
-      by true found e = absurd (cc)
-      by false None e = absurd (cc)
-      by false (Some k) e = by_name k (nat_lt k (driven reading.header) && bytes_eq (port_name reading port) (port_name reading k)) e
-
   module _ (is : IsNameable reading) where
     one_output : (port literal : ℕ) (rest : List ℕ) (net more : NetList) → port < 2 ^ 64 → Awaits reading port (literal ∷ rest) net → IsFit reading net → (found : Option ℕ) → own reading port literal ≡ found → output_made reading port literal found net ≡ Ok more → IsFit reading more
     one_output port literal rest net more small awaits fit (Some n) at made =
-        let less = found_below net literal n fit (own_found port literal n at) in
+        let less = found_below net literal n fit (own_is reading port literal n at) in
         same_fit (with_output n net) more (record { inside = with_output_inside net fit.inside n less; long = fit.long }) made
     one_output port literal rest net more small awaits fit None at made =
         let (first, one, later) = split_ok (labelled (port_name reading port) true net) (λ m. gated (literal_gate reading (nets net) literal) m >>= (λ with. Ok (with_output (nets net) with))) more made in

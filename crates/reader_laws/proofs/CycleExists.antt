@@ -1,6 +1,6 @@
 -- From each root a walk ends, or it finds a cycle.
 use Rattle.std.proofs.Common.{◌≡◌, ◌⊎◌, ◌∙◌, ap, sym, refl, inl, inr, subst, ℕ, zero, suc, ◌<◌, ◌≤◌, ◌+◌, Bool, true, false, List, [], ◌∷◌, ◌++◌, length, drop, replicate, Option, None, Some, arith, length-set}
-use Rattle.std.specs.Prelude.{slice_get, sum_by}
+use Rattle.std.specs.Prelude.{slice_get}
 use Rattle.std.proofs.Math.ListN.{set}
 use Rattle.std.proofs.lemmas.List.{length-replicate}
 use Rattle.std.proofs.lemmas.Option.{slice_get_within}
@@ -9,30 +9,13 @@ use Rattle.lists.specs.laws.HasLaws.{Has_left}
 use Rattle.lists.specs.laws.ListLaws.{length-push}
 use Rattle.lists.specs.laws.NumberLaws.{nat_eq_or}
 use Rattle.lists.specs.laws.ReadLaws.{get_here, get_none, get_set_other, get_set_same, got_push, got_set}
-use Rattle.lists.specs.laws.SumLaws.{sum_by-set_at}
 use Rattle.graph_core.specs.Graph.{Graph, edges, HasEdge, IsPath}
 use Rattle.graph_core.specs.Walk.{IsLoopBy, IsWalkBy}
 use Rattle.graph_core.specs.Cycle.{IsGrounded, grounded, IsEndless, IsFirstEndless, IsCycleOf}
 use Rattle.graph_core.proofs.GraphLemmas.{edges_within}
 use Rattle.graph_core.proofs.GroundLemmas.{grounded_edge, grounded_no_cycle, path_more}
 use Rattle.graph_core.proofs.LawLemmas.{is_cycle}
-
--- ---- points that were met
-
-abbrev unmet : Bool → ℕ
-unmet false = 1
-unmet true = 0
-
-abbrev count_unmet : List Bool → ℕ
-count_unmet seen = sum_by unmet seen
-
-unmet_set : (seen : List Bool) (at : ℕ) → slice_get seen at ≡ Some false → count_unmet (set seen at true) + 1 ≡ count_unmet seen
-unmet_set seen at new = omega (arith, sum_by-set_at unmet seen at false true new)
-
-none_met : (n k : ℕ) → slice_get (replicate n false) k ≡ Some true → ⊥
-none_met zero k got = cc
-none_met (suc n) zero got = cc
-none_met (suc n) (suc k) got = none_met n k got
+use Rattle.net_core.proofs.ExistLemmas.{count_unmet, none_met, unmet_set}
 
 -- ---- each point is grounded, or it leads into a cycle
 

@@ -5,7 +5,6 @@ pub mod BindingExists
 pub mod BlifExists
 pub mod BlifSound
 pub mod FlatExists
-pub mod AigerKeeps
 pub mod AigerInside
 pub mod AigerExists
 pub mod DeclareExists
@@ -14,6 +13,7 @@ pub mod ModuleExists
 pub mod ModuleInside
 pub mod VerilogExists
 pub mod DecidedLemmas
+pub mod SignatureWords
 pub mod SignatureSays
 pub mod SignatureExists
 pub mod CertificateSums

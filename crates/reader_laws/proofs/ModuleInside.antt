@@ -1,5 +1,5 @@
 -- Of a module in structural Verilog comes a net list that stands on nets that there are, and keeps the limits.
-use Rattle.std.proofs.Common.{◌≡◌, ap, sym, refl, subst, ℕ, zero, suc, ◌+◌, ◌-◌, ◌^◌, ◌<◌, ◌≤◌, ◌==◌, Bool, true, false, ◌||◌, cond, List, [], ◌∷◌, ◌++◌, length, codes, decimal, Option, None, Some, Result, Ok, Err, arith}
+use Rattle.std.proofs.Common.{◌≡◌, sym, refl, subst, ℕ, zero, suc, ◌+◌, ◌-◌, ◌^◌, ◌<◌, ◌≤◌, ◌==◌, Bool, true, false, ◌||◌, cond, List, [], ◌∷◌, ◌++◌, length, codes, decimal, Option, None, Some, Result, Ok, Err, arith}
 use Rattle.std.specs.Prelude.{All, nat_le, nat_lt}
 use Rattle.std.specs.List.{AllByRecursion}
 use Rattle.std.proofs.lemmas.Bool.{eqb-true, leb-true}
@@ -37,16 +37,13 @@ use Rattle.verilog_reader.specs.Items.{Item, ItemsOf, ReadsItem, State, endmodul
 use Rattle.verilog_reader.specs.Modules.{Head, Module, PlainPort, PortList, PortsAfter, PortsFrom, ReadsPort, nothing_more, open_first, port_direction}
 use Rattle.verilog_reader.specs.declared.starts.ItemStart.{ItemStart}
 use Rattle.verilog_reader.specs.declared.starts.ItemStart.TheVariants as items
+use Rattle.verilog_reader.proofs.AssignedLemmas.{net_value}
 use Rattle.reader_laws.proofs.VerilogInside.{Fits, all_wider, driver_gate, fits_more, fits_same, fitting_name, gate_fits, made_fits, mention_fits, settle_fits, spells_named, target_named}
 
 -- the net list is inside, and the names of the nets of declared vectors are short
 pub record IsGood (state : State) : Type 0 where
   pub inside : IsInside state.1
   pub names : HasNetNames state.0
-
-net_ok : {A : Type 0} (answer : Result A NetFault) (a : A) → ◌≡◌ {A = Result A VerilogFault} (Ok a) (net_fault answer) → answer ≡ Ok a
-net_ok (Ok b) a is = let same : a ≡ b = cc in ap (λ x. Ok x) (sym same)
-net_ok (Err e) a is = absurd (cc)
 
 -- ---- lists with commas
 
@@ -71,10 +68,10 @@ expression_fits declared net tokens read names inside is = made_fits net read.ne
 module _ (declared : Declarations) (names : HasNetNames declared) where
   assigns_inside : (net : NetList) (tokens : List TokenValue) (found : NetList × List TokenValue) → IsInside net → Assigns declared net tokens (Ok found) → IsInside found.0
   assigns_inside net tokens found inside (target, one, (out, two, (sign, three, (read, four, (more, five, is))))) =
-      let first = mention_fits net out.0 target.0 out.1 inside (target_named declared tokens target names (sym one)) (net_ok (mentioned net target.0) out two) in
+      let first = mention_fits net out.0 target.0 out.1 inside (target_named declared tokens target names (sym one)) (net_value (mentioned net target.0) out two) in
       let second = expression_fits declared out.0 sign.1 read names first.0.inside four in
       let below : out.1 < nets read.net = omega (arith, first.1, second.0.wider) in
-      let third = gate_fits read.net more out.1 (inputs_of read.driver) (table_of read.driver) second.0.inside (driver_gate (nets read.net) out.1 read.driver below second.1) (net_ok (driven read.net out.1 read.driver) more five) in
+      let third = gate_fits read.net more out.1 (inputs_of read.driver) (table_of read.driver) second.0.inside (driver_gate (nets read.net) out.1 read.driver below second.1) (net_value (driven read.net out.1 read.driver) more five) in
       let P : NetList × List TokenValue → Type 0 = λ p. IsInside p.0 in
       subst P (sym is) third.inside
 
@@ -88,7 +85,7 @@ module _ (declared : Declarations) (names : HasNetNames declared) where
   input_inside : (start : NetList) (so_far : NetList × List ℕ) (tokens : List TokenValue) (found : (NetList × List ℕ) × List TokenValue) → AreInputs start so_far → ReadsInput declared so_far tokens (Ok found) → AreInputs start found.0
   input_inside start so_far tokens found are (read, one, (net, two, is)) =
       let first = expression_fits declared so_far.0 tokens read names are.fits.inside one in
-      let second = settle_fits read.net net.0 net.1 read.driver first.0.inside first.1 (net_ok (settled read.net read.driver) net two) in
+      let second = settle_fits read.net net.0 net.1 read.driver first.0.inside first.1 (net_value (settled read.net read.driver) net two) in
       let whole : Fits so_far.0 net.0 = fits_more so_far.0 read.net net.0 first.0 second.0 in
       let P : (NetList × List ℕ) × List TokenValue → Type 0 = λ p. AreInputs start p.0 in
       subst P (sym is) (record {
@@ -120,12 +117,12 @@ placed_inside kind net more out inputs line inside below on is = by (fits_gate k
   where
     by : (b : Bool) → fits_gate kind (length inputs) ≡ b → ◌≡◌ {A = Result NetList VerilogFault} (Ok more) (cond b (net_fault (with_gate_of net out inputs (gate_table kind (length inputs)))) (Err (faults.Arity line (length inputs)))) → IsInside more
     by true e h =
-        (gate_fits net more out inputs (gate_table kind (length inputs)) inside (below, on, few_inputs kind (length inputs) e, table_low kind (length inputs) (2 ^ length inputs)) (net_ok (with_gate_of net out inputs (gate_table kind (length inputs))) more h)).inside
+        (gate_fits net more out inputs (gate_table kind (length inputs)) inside (below, on, few_inputs kind (length inputs) e, table_low kind (length inputs) (2 ^ length inputs)) (net_value (with_gate_of net out inputs (gate_table kind (length inputs))) more h)).inside
     by false e h = absurd (cc)
 
 instance_inside : (declared : Declarations) (kind : GateKind) → HasNetNames declared → (net : NetList) (tokens : List TokenValue) (found : NetList × List TokenValue) → IsInside net → ReadsInstance declared kind net tokens (Ok found) → IsInside found.0
 instance_inside declared kind names net tokens found inside (named, one, (left, two, (target, three, (out, four, (first, five, (inputs, six, (right, seven, (more, eight, is)))))))) =
-    let a = mention_fits net out.0 target.0 out.1 inside (target_named declared left.1 target names (sym three)) (net_ok (mentioned net target.0) out four) in
+    let a = mention_fits net out.0 target.0 out.1 inside (target_named declared left.1 target names (sym three)) (net_value (mentioned net target.0) out four) in
     let begun : AreInputs declared names out.0 (out.0, []) = record { fits = fits_same out.0 out.0 refl a.0.inside; on = λ k d less. absurd (omega (arith, less)) } in
     let b = several_holds (AreInputs declared names out.0) (ReadsInput declared) (input_inside declared names out.0) (out.0, []) first.1 inputs begun six in
     let P : NetList × List TokenValue → Type 0 = λ p. IsInside p.0 in
@@ -201,7 +198,7 @@ name_good : (range : Range) (direction : Direction) (state : State) (tokens : Li
 name_good range direction state tokens found good (name, one, (declared, two, (net, three, is))) =
     let both = declares_names state.0 declared range direction name.0 good.names two in
     let named : IsNetName name.0.1 = identifier_named tokens name (sym one) in
-    let inside : IsInside net = ported_inside direction state.1 net name.0.1 range good.inside (nets_named name.0.1 range named both.1) (net_ok (ported direction state.1 name.0.1 range) net three) in
+    let inside : IsInside net = ported_inside direction state.1 net name.0.1 range good.inside (nets_named name.0.1 range named both.1) (net_value (ported direction state.1 name.0.1 range) net three) in
     let P : State × List TokenValue → Type 0 = λ p. IsGood p.0 in
     subst P (sym is) (record { inside = inside; names = both.0 })
 

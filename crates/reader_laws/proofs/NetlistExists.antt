@@ -35,7 +35,7 @@ use Rattle.job_input.specs.File.{Read}
 use Rattle.job_input.specs.NetlistOf.{by_ending, of_aiger, of_binding, of_model, of_text, of_verilog, Aiger, Blif, BlifNetOf, BoundNetOf, NetOf, NetlistIn, NetlistText, Verilog, WordsBound}
 
 -- a file is read or refused, also where the shelf does not tell what it holds
-some_read : (held : Option Files) (name : Word) → (outcome : Result (List ℕ) FileFault) × Read held name outcome
+pub some_read : (held : Option Files) (name : Word) → (outcome : Result (List ℕ) FileFault) × Read held name outcome
 some_read None name = (Ok [], (tt, omega arith))
 some_read (Some files) name = by (get files name) refl
   where
@@ -60,7 +60,7 @@ named words net fault = netlist.Binding (of_binding words net fault)
 abbrev with_words : NetList → Binding → BoundNet
 with_words net bound = record { net = net; binding = bound }
 
-some_bound : (words : List WordText) (feeds : List FeedText) (net : NetList) → (outcome : Result BoundNet NetlistFault) × WordsBound words feeds net outcome
+pub some_bound : (words : List WordText) (feeds : List FeedText) (net : NetList) → (outcome : Result BoundNet NetlistFault) × WordsBound words feeds net outcome
 some_bound words feeds net =
     some_bind (Within (named words net) (BindingOf net words feeds)) (λ bound. Exactly (with_words net bound)) (some_within (named words net) (BindingOf net words feeds) (some_binding net words feeds)) (λ bound may. some_exactly (with_words net bound))
 

@@ -12,7 +12,8 @@ use Rattle.net_signature.specs.declared.entry.Entry.{Entry}
 use Rattle.net_signature.specs.declared.fault.SigFault.{SigFault}
 use Rattle.net_signature.specs.declared.fault.SigFault.TheVariants.{Syntax}
 use Rattle.net_signature.proofs.EntryDetermined.{one_entry}
-use Rattle.reader_laws.proofs.SignatureSays.{IsSaidOr, version_decided, field_decided, tower_decided, entry_decided}
+use Rattle.reader_laws.proofs.SignatureSays.{entry_decided}
+use Rattle.reader_laws.proofs.SignatureWords.{IsSaidOr, version_decided, field_decided, tower_decided}
 use Rattle.net_signature.proofs.SignatureLemmas.{after_version, after_field, after_tower, after_upper}
 
 some_syntax : {A : Type 0} (number : ℕ) (says : A → Type 0) → IsSaidOr says → (outcome : Result A SigFault) × OrSyntax number says outcome

@@ -1,5 +1,5 @@
 //! Laws that each text has an outcome, beside the readers' laws that it has one at most: signatures, netlists in BLIF,
-//! structural Verilog and ASCII AIGER, and certificates. No program calls these functions, and no crate stands on this one.
+//! structural Verilog and ASCII AIGER, and certificates. No program calls these functions.
 #![tactic(auto)]
 
 mod netlists;

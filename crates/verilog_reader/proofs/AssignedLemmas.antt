@@ -75,7 +75,7 @@ module _ (declared : Declarations) (net : NetList) (tokens : List TokenValue) (r
           absurd (cc)
 
 -- a value of a step of the net
-net_value : {A : Type 0} (r : Result A NetFault) (a : A) → ◌≡◌ {A = Result A VerilogFault} (Ok a) (net_fault r) → r ≡ Ok a
+pub net_value : {A : Type 0} (r : Result A NetFault) (a : A) → ◌≡◌ {A = Result A VerilogFault} (Ok a) (net_fault r) → r ≡ Ok a
 net_value {A} (Ok b) a is = ap Ok (sym (same is))
   where
     same : ◌≡◌ {A = Result A VerilogFault} (Ok a) (Ok b) → a ≡ b

@@ -15,6 +15,6 @@ mod StepLemmas
 pub mod TextLemmas
 pub mod VerilogDetermined
 mod ReadingLemmas
-mod AssignedLemmas
+pub mod AssignedLemmas
 mod ModuleLemmas
 mod PortListLemmas
