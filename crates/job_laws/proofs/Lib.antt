@@ -1,0 +1,12 @@
+pub mod Searches
+pub mod WordDecided
+pub mod OptionDecided
+pub mod CircuitOptionDecided
+pub mod ShapeDecided
+pub mod JobExists
+pub mod FieldDecided
+pub mod FieldNamed
+pub mod FieldExists
+pub mod SettingExists
+pub mod CircuitExists
+pub mod FileExists

@@ -1,0 +1,5 @@
+pub mod HasOutcome
+pub mod Spelled
+pub mod Named
+pub mod Held
+pub mod Specified
