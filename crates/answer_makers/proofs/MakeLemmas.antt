@@ -189,40 +189,31 @@ ring_made setting Adder base net is = absurd base
 ring_made setting Squarer base net is = is
 ring_made setting Digit base net is = absurd base
 
--- the field of a degree and a modulus
-module _ (setting : SettingValue) (k g : ℕ) (fits : IsModulus k g) (field : HasNoZeroDivisors k (product 1 k bit_mul g)) (same : g ≡ setting.signature.modulus) (no_tower : setting.signature.tower ≡ []) where
-  same_field : (HasForm : SignatureValue → Type 0) → k ≡ setting.k → HasForm setting.signature → IsOverBase HasForm setting
-  same_field HasForm degree form =
-      let P : ℕ → Type 0 = λ x. IsFieldModulus k x in
-      let Q : ℕ → Type 0 = λ d. IsFieldModulus d setting.signature.modulus in
-      record { modulus = subst Q degree (subst P same (field_modulus k g fits field)); no_tower = no_tower; form = form }
+-- a modulus that makes the field of the setting
+module _ (setting : SettingValue) (g : ℕ) (fits : IsModulus setting.k g) (field : HasNoZeroDivisors setting.k (product 1 setting.k bit_mul g)) (same : g ≡ setting.signature.modulus) (no_tower : setting.signature.tower ≡ []) where
+  same_field : (HasForm : SignatureValue → Type 0) → HasForm setting.signature → IsOverBase HasForm setting
+  same_field HasForm form =
+      let P : ℕ → Type 0 = λ x. IsFieldModulus setting.k x in
+      record { modulus = subst P same (field_modulus setting.k g fits field); no_tower = no_tower; form = form }
 
-  module _ (kind : Kind) (base : IsOfRing kind) where
-    pub over_ring_form : k ≡ setting.k → HasRingForm kind setting.signature → HasFormOf setting kind
-    over_ring_form degree form = ring_form setting kind base (same_field (HasRingForm kind) degree form)
+  pub over_ring_form : (kind : Kind) → IsOfRing kind → HasRingForm kind setting.signature → HasFormOf setting kind
+  over_ring_form kind base form = ring_form setting kind base (same_field (HasRingForm kind) form)
 
-    pub over_ring_net : k ≡ setting.k → (net : NetList) → IsRingNet kind k g setting.signature net → IsMade setting kind net
-    over_ring_net degree net is =
-        let P : ℕ → Type 0 = λ d. IsRingNet kind d g setting.signature net in
-        let Q : ℕ → Type 0 = λ x. IsRingNet kind setting.k x setting.signature net in
-        ring_made setting kind base net (subst Q same (subst P degree is))
+  pub over_ring_net : (kind : Kind) → IsOfRing kind → (net : NetList) → IsRingNet kind setting.k g setting.signature net → IsMade setting kind net
+  over_ring_net kind base net is =
+      let P : ℕ → Type 0 = λ x. IsRingNet kind setting.k x setting.signature net in
+      ring_made setting kind base net (subst P same is)
 
-    pub no_ring_form : (HasRingForm kind setting.signature → ⊥) → HasFormOf setting kind → ⊥
-    no_ring_form none form = none (of_ring_form setting kind base form).form
+  pub digits_form : HasDigitForm setting.k setting.signature → HasFormOf setting Digit
+  digits_form form = same_field (HasDigitForm setting.k) form
 
-  -- ---- digits
+  pub digits_net : (net : NetList) → IsDigitNet setting.k (product 1 setting.k bit_mul g) (x_of setting.k g) setting.signature net → IsMade setting Digit net
+  digits_net net is =
+      let P : ℕ → Type 0 = λ x. IsDigitNet setting.k (product 1 setting.k bit_mul x) (x_of setting.k x) setting.signature net in
+      subst P same is
 
-  pub digits_form : k ≡ setting.k → HasDigitForm k setting.signature → HasFormOf setting Digit
-  digits_form degree form = let P : ℕ → Type 0 = λ d. HasDigitForm d setting.signature in same_field (HasDigitForm setting.k) degree (subst P degree form)
-
-  pub digits_net : k ≡ setting.k → (net : NetList) → IsDigitNet k (product 1 k bit_mul g) (x_of k g) setting.signature net → IsMade setting Digit net
-  digits_net degree net is =
-      let P : ℕ → Type 0 = λ d. IsDigitNet d (product 1 d bit_mul g) (x_of d g) setting.signature net in
-      let Q : ℕ → Type 0 = λ x. IsDigitNet setting.k (product 1 setting.k bit_mul x) (x_of setting.k x) setting.signature net in
-      subst Q same (subst P degree is)
-
-  pub no_digits : k ≡ setting.k → (HasDigitForm k setting.signature → ⊥) → HasFormOf setting Digit → ⊥
-  no_digits degree none form = let P : ℕ → Type 0 = λ d. HasDigitForm d setting.signature in none (subst P (sym degree) form.form)
+pub no_ring_form : (setting : SettingValue) (kind : Kind) → IsOfRing kind → (HasRingForm kind setting.signature → ⊥) → HasFormOf setting kind → ⊥
+no_ring_form setting kind base none form = none (of_ring_form setting kind base form).form
 
 -- ---- towers
 

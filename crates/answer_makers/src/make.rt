@@ -1,13 +1,13 @@
 //! The command `make`: a netlist of a kind that is made for a signature.
-ghost use Rattle.std.specs.Prelude.{◌≡◌, ℕ, ◌<◌, ◌^◌, [], IfNone, IfOk, IfSome, IsErrOf, OnOk};
+ghost use Rattle.std.specs.Prelude.{◌≡◌, ℕ, ◌<◌, ◌^◌, IfNone, IfOk, IfSome, IsErrOf, OnOk};
 ghost use Rattle.gf_basis.specs.BasisFault.{conjugates_of};
 ghost use Rattle.gf_basis.specs.BasisParts.{IsBasisOver, elements_of};
 ghost use Rattle.irreducible.specs.Span.{IsIndependent};
 ghost use Rattle.net_words.specs.declared.word.BasisText.TheVariants as text_basis;
 ghost use Rattle.gf_field.specs.Ring2k.{degree_of, modulus_of};
-ghost use Rattle.gf_tower.specs.TowerParts.{base_of, coefficients_of};
+ghost use Rattle.gf_tower.specs.declared.any_field.AnyField.TheVariants.{Base, Tower as OneStep, Upper};
 ghost use Rattle.irreducible.specs.Proved.{ring_of};
-ghost use Rattle.job_input.specs.Setting.{IsReady, setting_value};
+ghost use Rattle.job_input.specs.Setting.{any_degree, any_product, setting_in, setting_value, IsNamedBy, IsReady};
 ghost use Rattle.job_words.specs.Stop.{GivesBy};
 ghost use Rattle.job_words.specs.declared.kind.Kind.TheVariants.{Adder, Composite, Digit, Normal};
 ghost use Rattle.mult_gen.specs.Form.{AreWide};
@@ -16,12 +16,12 @@ ghost use Rattle.answer_core.specs.Reply.{reply_of};
 ghost use Rattle.answer_makers.specs.Make.{MadeOf, MakeAnswer};
 ghost use Rattle.answer_makers.specs.private.Making.{FirstIsNormal, HasRingForm, IsOfRing, IsRingNet};
 
-use answer_core::{Output, base_field, tower_field};
+use answer_core::Output;
 use gf_basis::Basis;
-use gf_field::{Field, Ring, Ring2k};
-use gf_tower::Tower;
+use gf_field::{Field, Ring2k};
+use gf_tower::{AnyField, Tower};
 use irreducible::Proved;
-use job_input::Setting;
+use job_input::{NamedSetting, Setting};
 use job_words::{Fault, Kind, Stop};
 use mult_composite::composite;
 use mult_digit::digit_serial;
@@ -34,17 +34,12 @@ use net_words::{BasisText, WordText};
 use net_write::write_blif;
 use std::alloc::Global;
 
-/// What the command answers over a setting.
-pub fn answer<F: Field>(
-    alloc: Global,
-    field: &F,
-    setting: &Setting,
-    kind: Kind,
-) -> Result<Output, Stop>
-    requires ready { IsReady (F.degree field.now) (F.product field.now) setting.now }
-    ensures { GivesBy reply_of result (MakeAnswer (setting_value (F.degree field.now) (F.product field.now) setting.now) kind) ⊥ ⊥ }
+/// What the command answers over a setting with the field that its signature names.
+pub fn answer(alloc: Global, named: &NamedSetting, kind: Kind) -> Result<Output, Stop>
+    requires ready { IsReady (any_degree named.now.field.now) (any_product named.now.field.now) named.now.setting.now }
+    ensures { GivesBy reply_of result (MakeAnswer (setting_in named.now.field.now named.now.setting.now) kind) ⊥ ⊥ }
 {
-    match made(alloc, field, setting, kind) {
+    match made(alloc, named, kind) {
         Ok(net) => {
             let text = write_blif(alloc, &net)?;
             Ok(Output { status: 0, text })
@@ -54,53 +49,94 @@ pub fn answer<F: Field>(
 }
 
 // The net of a kind.
-fn made<F: Field>(alloc: Global, field: &F, setting: &Setting, kind: Kind) -> Result<Net, Stop>
-    requires ready { IsReady (F.degree field.now) (F.product field.now) setting.now }
-    ensures gives { GivesBy (λ net. net) result (MadeOf (setting_value (F.degree field.now) (F.product field.now) setting.now) kind) ⊥ ⊥ }
+fn made(alloc: Global, named: &NamedSetting, kind: Kind) -> Result<Net, Stop>
+    requires ready { IsReady (any_degree named.now.field.now) (any_product named.now.field.now) named.now.setting.now }
+    ensures gives { GivesBy (λ net. net) result (MadeOf (setting_in named.now.field.now named.now.setting.now) kind) ⊥ ⊥ }
     ensures plain { IfOk result (λ net. HasPlainNames net) }
 {
-    match kind {
-        Kind::Mastrovito | Kind::Montgomery | Kind::Squarer => {
-            over_base(alloc, field, setting, kind)
-        }
-        Kind::Composite => over_tower(alloc, field, setting),
-        Kind::Normal => in_normal_basis(alloc, field, setting),
-        Kind::Adder => in_any_basis(alloc, field, setting),
-        Kind::Digit => in_digits(alloc, field, setting),
+    let setting = named.setting;
+    let field = named.field;
+    match field {
+        AnyField::Base(ring) => over_base(alloc, ring, setting, kind),
+        AnyField::Tower(tower) => over_tower(alloc, tower, setting, kind),
+        AnyField::Upper(upper) => over_upper(alloc, upper, setting, kind),
     }
 }
 
-// The net of a kind that asks for a field without a tower.
-fn over_base<F: Field>(alloc: Global, field: &F, setting: &Setting, kind: Kind) -> Result<Net, Stop>
-    requires wide { AreWide (F.degree field.now) setting.now.signature.words }
-    requires base { IsOfRing kind }
-    ensures gives { GivesBy (λ net. net) result (MadeOf (setting_value (F.degree field.now) (F.product field.now) setting.now) kind) ⊥ ⊥ }
-    ensures plain { IfOk result (λ net. HasPlainNames net) }
-{
-    match base_field(&setting.signature) {
-        Some(ring) => beside_ring(alloc, field, &ring, setting, kind),
-        None => Err(Stop::Refused(Fault::Form(kind))),
-    }
-}
-
-// The net of such a kind over this field, where its degree is that of the setting.
-fn beside_ring<F: Field>(
+// The net of a kind over a field without a tower.
+fn over_base(
     alloc: Global,
-    field: &F,
     ring: &Proved<Ring2k>,
     setting: &Setting,
     kind: Kind,
 ) -> Result<Net, Stop>
-    requires wide { AreWide (F.degree field.now) setting.now.signature.words }
-    requires base { IsOfRing kind }
-    requires modulus { modulus_of (ring_of ring.now) ≡ setting.now.signature.modulus }
-    requires no_tower { setting.now.signature.tower ≡ [] }
-    ensures gives { GivesBy (λ net. net) result (MadeOf (setting_value (F.degree field.now) (F.product field.now) setting.now) kind) ⊥ ⊥ }
+    requires ready { IsReady (any_degree (Base ring.now)) (any_product (Base ring.now)) setting.now }
+    requires named { IsNamedBy setting.now.signature (Base ring.now) }
+    ensures gives { GivesBy (λ net. net) result (MadeOf (setting_in (Base ring.now) setting.now) kind) ⊥ ⊥ }
     ensures plain { IfOk result (λ net. HasPlainNames net) }
 {
-    if ring.k() != field.k() {
-        return Err(Stop::Refused(Fault::Form(kind)));
+    match kind {
+        Kind::Mastrovito | Kind::Montgomery | Kind::Squarer => {
+            in_ring(alloc, ring, setting, kind)
+        }
+        Kind::Composite => Err(Stop::Refused(Fault::Form(kind))),
+        Kind::Normal => in_normal_basis(alloc, ring, setting),
+        Kind::Adder => in_any_basis(alloc, ring, setting),
+        Kind::Digit => in_digits(alloc, ring, setting),
     }
+}
+
+// The net of a kind over a tower of one step.
+fn over_tower(
+    alloc: Global,
+    tower: &Proved<Tower<Proved<Ring2k>>>,
+    setting: &Setting,
+    kind: Kind,
+) -> Result<Net, Stop>
+    requires ready { IsReady (any_degree (OneStep tower.now)) (any_product (OneStep tower.now)) setting.now }
+    requires named { IsNamedBy setting.now.signature (OneStep tower.now) }
+    ensures gives { GivesBy (λ net. net) result (MadeOf (setting_in (OneStep tower.now) setting.now) kind) ⊥ ⊥ }
+    ensures plain { IfOk result (λ net. HasPlainNames net) }
+{
+    match kind {
+        Kind::Composite => in_tower(alloc, tower, setting),
+        Kind::Normal => in_normal_basis(alloc, tower, setting),
+        Kind::Adder => in_any_basis(alloc, tower, setting),
+        Kind::Mastrovito | Kind::Montgomery | Kind::Squarer | Kind::Digit => {
+            Err(Stop::Refused(Fault::Form(kind)))
+        }
+    }
+}
+
+// The net of a kind over a tower of two steps.
+fn over_upper(
+    alloc: Global,
+    upper: &Proved<Tower<Proved<Tower<Proved<Ring2k>>>>>,
+    setting: &Setting,
+    kind: Kind,
+) -> Result<Net, Stop>
+    requires ready { IsReady (any_degree (Upper upper.now)) (any_product (Upper upper.now)) setting.now }
+    requires named { IsNamedBy setting.now.signature (Upper upper.now) }
+    ensures gives { GivesBy (λ net. net) result (MadeOf (setting_in (Upper upper.now) setting.now) kind) ⊥ ⊥ }
+    ensures plain { IfOk result (λ net. HasPlainNames net) }
+{
+    match kind {
+        Kind::Normal => in_normal_basis(alloc, upper, setting),
+        Kind::Adder => in_any_basis(alloc, upper, setting),
+        Kind::Mastrovito | Kind::Montgomery | Kind::Squarer | Kind::Digit | Kind::Composite => {
+            Err(Stop::Refused(Fault::Form(kind)))
+        }
+    }
+}
+
+// The net of a kind that asks for a field without a tower.
+fn in_ring(alloc: Global, ring: &Proved<Ring2k>, setting: &Setting, kind: Kind) -> Result<Net, Stop>
+    requires wide { AreWide (any_degree (Base ring.now)) setting.now.signature.words }
+    requires base { IsOfRing kind }
+    requires named { IsNamedBy setting.now.signature (Base ring.now) }
+    ensures gives { GivesBy (λ net. net) result (MadeOf (setting_in (Base ring.now) setting.now) kind) ⊥ ⊥ }
+    ensures plain { IfOk result (λ net. HasPlainNames net) }
+{
     match over_ring(alloc, ring, &setting.signature, kind) {
         Ok(net) => Ok(net),
         Err(MakeFault::Unfit) => Err(Stop::Refused(Fault::Form(kind))),
@@ -108,7 +144,7 @@ fn beside_ring<F: Field>(
     }
 }
 
-// The net of a kind over a field without a tower.
+// The net of a kind that asks for a field without a tower, by its maker.
 fn over_ring(
     alloc: Global,
     ring: &Proved<Ring2k>,
@@ -132,34 +168,16 @@ fn over_ring(
 }
 
 // A multiplier in a tower of one step.
-fn over_tower<F: Field>(alloc: Global, field: &F, setting: &Setting) -> Result<Net, Stop>
-    requires wide { AreWide (F.degree field.now) setting.now.signature.words }
-    ensures gives { GivesBy (λ net. net) result (MadeOf (setting_value (F.degree field.now) (F.product field.now) setting.now) Composite) ⊥ ⊥ }
-    ensures plain { IfOk result (λ net. HasPlainNames net) }
-{
-    match tower_field(&setting.signature) {
-        Some(tower) => beside_tower(alloc, field, &tower, setting),
-        None => Err(Stop::Refused(Fault::Form(Kind::Composite))),
-    }
-}
-
-// A multiplier in this tower, where its degree is that of the setting.
-fn beside_tower<F: Field>(
+fn in_tower(
     alloc: Global,
-    field: &F,
     tower: &Proved<Tower<Proved<Ring2k>>>,
     setting: &Setting,
 ) -> Result<Net, Stop>
-    requires wide { AreWide (F.degree field.now) setting.now.signature.words }
-    requires modulus { modulus_of (ring_of (base_of (ring_of tower.now))) ≡ setting.now.signature.modulus }
-    requires tower { coefficients_of (ring_of tower.now) ≡ setting.now.signature.tower }
-    requires one_step { setting.now.signature.upper ≡ [] }
-    ensures gives { GivesBy (λ net. net) result (MadeOf (setting_value (F.degree field.now) (F.product field.now) setting.now) Composite) ⊥ ⊥ }
+    requires wide { AreWide (any_degree (OneStep tower.now)) setting.now.signature.words }
+    requires named { IsNamedBy setting.now.signature (OneStep tower.now) }
+    ensures gives { GivesBy (λ net. net) result (MadeOf (setting_in (OneStep tower.now) setting.now) Composite) ⊥ ⊥ }
     ensures plain { IfOk result (λ net. HasPlainNames net) }
 {
-    if tower.k() != field.k() {
-        return Err(Stop::Refused(Fault::Form(Kind::Composite)));
-    }
     match composite(alloc, tower, &setting.signature) {
         Ok(net) => Ok(net),
         Err(MakeFault::Unfit) => Err(Stop::Refused(Fault::Form(Kind::Composite))),
@@ -260,33 +278,12 @@ fn in_any_basis<F: Field>(alloc: Global, field: &F, setting: &Setting) -> Result
 }
 
 // A multiplier that is fed digit by digit.
-fn in_digits<F: Field>(alloc: Global, field: &F, setting: &Setting) -> Result<Net, Stop>
-    requires ready { IsReady (F.degree field.now) (F.product field.now) setting.now }
-    ensures gives { GivesBy (λ net. net) result (MadeOf (setting_value (F.degree field.now) (F.product field.now) setting.now) Digit) ⊥ ⊥ }
+fn in_digits(alloc: Global, ring: &Proved<Ring2k>, setting: &Setting) -> Result<Net, Stop>
+    requires ready { IsReady (any_degree (Base ring.now)) (any_product (Base ring.now)) setting.now }
+    requires named { IsNamedBy setting.now.signature (Base ring.now) }
+    ensures gives { GivesBy (λ net. net) result (MadeOf (setting_in (Base ring.now) setting.now) Digit) ⊥ ⊥ }
     ensures plain { IfOk result (λ net. HasPlainNames net) }
 {
-    match base_field(&setting.signature) {
-        Some(ring) => beside_digits(alloc, field, &ring, setting),
-        None => Err(Stop::Refused(Fault::Form(Kind::Digit))),
-    }
-}
-
-// A multiplier over this field that is fed digit by digit, where its degree is that of the setting.
-fn beside_digits<F: Field>(
-    alloc: Global,
-    field: &F,
-    ring: &Proved<Ring2k>,
-    setting: &Setting,
-) -> Result<Net, Stop>
-    requires ready { IsReady (F.degree field.now) (F.product field.now) setting.now }
-    requires modulus { modulus_of (ring_of ring.now) ≡ setting.now.signature.modulus }
-    requires no_tower { setting.now.signature.tower ≡ [] }
-    ensures gives { GivesBy (λ net. net) result (MadeOf (setting_value (F.degree field.now) (F.product field.now) setting.now) Digit) ⊥ ⊥ }
-    ensures plain { IfOk result (λ net. HasPlainNames net) }
-{
-    if ring.k() != field.k() {
-        return Err(Stop::Refused(Fault::Form(Kind::Digit)));
-    }
     match digit_serial(alloc, ring, &setting.signature) {
         Ok(net) => Ok(net),
         Err(MakeFault::Unfit) => Err(Stop::Refused(Fault::Form(Kind::Digit))),

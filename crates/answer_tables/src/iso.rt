@@ -5,65 +5,77 @@ ghost use Rattle.gf_basis.specs.Basis.{first_values};
 ghost use Rattle.gf_field.specs.Ring2k.{modulus_of};
 ghost use Rattle.gf_iso.specs.IsoParts.{size_of, there_of};
 ghost use Rattle.gf_tower.specs.TowerParts.{base_of, coefficients_of};
+ghost use Rattle.gf_tower.specs.declared.any_field.AnyField.TheVariants.{Base};
 ghost use Rattle.irreducible.specs.Proved.{ring_of};
+ghost use Rattle.job_input.specs.Setting.{IsNamedBy};
 ghost use Rattle.job_words.specs.Stop.{GivesBy};
 ghost use Rattle.lift_table.specs.TableText.{value_lines};
 ghost use Rattle.poly_mixed.specs.Text.{hex_text};
 ghost use Rattle.answer_core.specs.Reply.{reply_of};
 ghost use Rattle.answer_tables.specs.Iso.{IsoReply, IsoAnswer};
 
-use answer_core::{Output, base_field, tower_field};
+use answer_core::Output;
 use gf_field::{Ring, Ring2k};
 use gf_iso::Iso;
 use gf_tower::{AnyField, Tower};
 use irreducible::Proved;
-use job_input::{Setting, read_second};
+use job_input::{NamedSetting, read_second};
 use job_io::Shelf;
 use job_words::{Fault, Stop};
 use net_signature::Signature;
 use std::alloc::{AllocError, Global};
 
-/// What the command answers over a setting and the file of its second signature.
+/// What the command answers over a setting with the field that its signature names, and the file of its second signature.
 pub fn answer<S: Shelf>(
     alloc: Global,
-    setting: &Setting,
+    named: &NamedSetting,
     file: &str,
     shelf: &mut S,
 ) -> Result<Output, Stop>
     ensures held { S.held shelf.new ≡ S.held shelf.old }
     ensures never_fall { (S.faults shelf.old ≤ S.faults shelf.new) × (S.misses shelf.old ≤ S.misses shelf.new) }
-    ensures gives { Replies S.held S.misses S.faults shelf.old shelf.new result (λ held. IsoAnswer held setting.now.signature file.now) }
+    ensures gives { Replies S.held S.misses S.faults shelf.old shelf.new result (λ held. IsoAnswer held named.now.setting.now.signature file.now) }
 {
+    let first = &named.setting.signature;
     match read_second(alloc, shelf, file) {
-        Ok(second) => reply(alloc, &setting.signature, &second),
+        Ok(second) => reply(alloc, first, named.field, &second.signature, &second.field),
         Err(stop) => Err(stop),
     }
 }
 
-// The images of the numbers 2^i, or fault 45 where the fields do not fit.
-fn reply(alloc: Global, first: &Signature, second: &Signature) -> Result<Output, Stop>
+// The images of the numbers 2^i, or fault 45 where the fields, which both signatures name, do not fit.
+fn reply(
+    alloc: Global,
+    first: &Signature,
+    field: &AnyField,
+    second: &Signature,
+    other: &AnyField,
+) -> Result<Output, Stop>
+    requires first { IsNamedBy first.now field.now }
+    requires second { IsNamedBy second.now other.now }
     ensures { GivesBy reply_of result (IsoReply first.now second.now) ⊥ ⊥ }
 {
-    match base_field(first) {
-        Some(big) => beside(alloc, first, second, &big),
-        None => Err(Stop::Refused(Fault::Fields)),
+    match field {
+        AnyField::Base(big) => beside(alloc, first, big, second, other),
+        AnyField::Tower(_) | AnyField::Upper(_) => Err(Stop::Refused(Fault::Fields)),
     }
 }
 
-// The images under the isomorphism to the first signature's field, which is at hand; fault 45 where the second has no tower.
+// The images under the isomorphism to the first signature's field; fault 45 where the second has no tower of one step.
 fn beside(
     alloc: Global,
     first: &Signature,
-    second: &Signature,
     big: &Proved<Ring2k>,
+    second: &Signature,
+    other: &AnyField,
 ) -> Result<Output, Stop>
-    requires modulus { modulus_of (ring_of big.now) ≡ first.now.modulus }
-    requires no_tower { first.now.tower ≡ [] }
+    requires first { IsNamedBy first.now (Base big.now) }
+    requires second { IsNamedBy second.now other.now }
     ensures { GivesBy reply_of result (IsoReply first.now second.now) ⊥ ⊥ }
 {
-    match tower_field(second) {
-        Some(tower) => between(alloc, first, second, big, &tower),
-        None => Err(Stop::Refused(Fault::Fields)),
+    match other {
+        AnyField::Tower(tower) => between(alloc, first, second, big, tower),
+        AnyField::Base(_) | AnyField::Upper(_) => Err(Stop::Refused(Fault::Fields)),
     }
 }
 

@@ -2,7 +2,7 @@
 ghost use Rattle.std.specs.Prelude.{◌≡◌, ◌⊎◌, ◌≤◌, map, string_bytes, IfOk, IsErrOf};
 ghost use Rattle.std.specs.Io.KnownBytes.{Keeps};
 ghost use Rattle.job_io.specs.Counts.{Rose};
-ghost use Rattle.job_input.specs.Setting.{setting_value, AreSaid, IsReady};
+ghost use Rattle.job_input.specs.Setting.{field_value, setting_value, AreSaid, IsNamedBy, IsReady};
 ghost use Rattle.gf_abs.specs.Answer.{Answer, CommandAnswer, SignedTask, TaskAnswer, TaskOver, signed_with};
 ghost use Rattle.answer_core.specs.Replies.{Replies};
 ghost use Rattle.gf_abs.specs.Written.{IsText, OutsideFailed, WritesWhole};
@@ -15,7 +15,7 @@ use answer_polynomials::{abstracting, bits, check, eval, same};
 use answer_tables::{iso, lift, table};
 use gf_field::Field;
 use gf_tower::AnyField;
-use job_input::{Setting, Signed, read_signed, setting_over};
+use job_input::{NamedSetting, Setting, Signed, read_signed, setting_over};
 use job_io::{Shelf, Sink, put_all};
 use job_words::{Command, Fault, Stop, Task, read_words, status_of, write_fault};
 use net_signature::Signature;
@@ -60,58 +60,68 @@ fn over_signature<S: Shelf>(
         Ok(signed) => signed,
         Err(stop) => return Err(stop),
     };
-    match field {
-        AnyField::Base(field) => signed_answer(alloc, &field, signature, task, shelf),
-        AnyField::Tower(field) => signed_answer(alloc, &field, signature, task, shelf),
-        AnyField::Upper(field) => signed_answer(alloc, &field, signature, task, shelf),
+    match &field {
+        AnyField::Base(base) => signed_answer(alloc, base, &field, signature, task, shelf),
+        AnyField::Tower(tower) => signed_answer(alloc, tower, &field, signature, task, shelf),
+        AnyField::Upper(upper) => signed_answer(alloc, upper, &field, signature, task, shelf),
     }
 }
 
-// The output of a command over its field.
+// The output of a command over its field, which is that one of any.
 fn signed_answer<F: Field, S: Shelf>(
     alloc: Global,
     field: &F,
+    any: &AnyField,
     signature: Signature,
     task: &Task,
     shelf: &mut S,
 ) -> Result<Output, Stop>
-    requires { AreSaid signature }
+    requires said { AreSaid signature }
+    requires named { IsNamedBy signature any.now }
+    requires same { field_value any.now ≡ record { k = F.degree field.now; product = F.product field.now } }
     ensures held { S.held shelf.new ≡ S.held shelf.old }
     ensures never_fall { (S.faults shelf.old ≤ S.faults shelf.new) × (S.misses shelf.old ≤ S.misses shelf.new) }
     ensures gives { Replies S.held S.misses S.faults shelf.old shelf.new result (SignedTask (signed_with (F.degree field.now) (F.product field.now) signature) task.now) }
 {
     match setting_over(alloc, field, signature) {
-        Ok(setting) => task_answer(alloc, field, &setting, task, shelf),
+        Ok(setting) => task_answer(alloc, field, any, &setting, task, shelf),
         Err(stop) => Err(stop),
     }
 }
 
-// The output of each command over a setting.
+// The output of each command over a setting and its field, which is that one of any.
 fn task_answer<F: Field, S: Shelf>(
     alloc: Global,
     field: &F,
+    any: &AnyField,
     setting: &Setting,
     task: &Task,
     shelf: &mut S,
 ) -> Result<Output, Stop>
-    requires { IsReady (F.degree field.now) (F.product field.now) setting.now }
+    requires ready { IsReady (F.degree field.now) (F.product field.now) setting.now }
+    requires named { IsNamedBy setting.now.signature any.now }
+    requires same { field_value any.now ≡ record { k = F.degree field.now; product = F.product field.now } }
     ensures held { S.held shelf.new ≡ S.held shelf.old }
     ensures never_fall { (S.faults shelf.old ≤ S.faults shelf.new) × (S.misses shelf.old ≤ S.misses shelf.new) }
     ensures gives { Replies S.held S.misses S.faults shelf.old shelf.new result (TaskAnswer (setting_value (F.degree field.now) (F.product field.now) setting.now) task.now) }
 {
+    let named = NamedSetting {
+        setting,
+        field: any,
+    };
     match task {
         Task::Bits(words) => { bits::answer(alloc, field, setting, words, shelf) }
         Task::Abstract(words) => { abstracting::answer(alloc, field, setting, words, shelf) }
         Task::Check(words) => { check::answer(alloc, field, setting, words, shelf) }
         Task::Same(words) => { same::answer(alloc, field, setting, words, shelf) }
         Task::Eval(words) => { eval::answer(alloc, field, setting, words, shelf) }
-        Task::Iso(file) => { iso::answer(alloc, setting, file, shelf) }
+        Task::Iso(file) => { iso::answer(alloc, &named, file, shelf) }
         Task::Lift(file) => { lift::answer(alloc, field, setting, file, shelf) }
         Task::Table(words) => { table::answer(alloc, field, setting, words, shelf) }
         Task::Certify(words) => { certify::answer(alloc, field, setting, words, shelf) }
         Task::Verify(words) => { verify::answer(alloc, field, setting, words, shelf) }
         Task::Upgrade(words) => { upgrade::answer(alloc, field, setting, words, shelf) }
-        Task::Make(kind) => make::answer(alloc, field, setting, *kind),
+        Task::Make(kind) => make::answer(alloc, &named, *kind),
         Task::Compose(words) => { compose::answer(alloc, field, setting, words, shelf) }
     }
 }

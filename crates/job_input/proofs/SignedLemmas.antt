@@ -7,7 +7,10 @@ use Rattle.net_signature.specs.Reading.{Fits}
 use Rattle.net_signature.specs.declared.fault.SigFault.{SigFault}
 use Rattle.net_signature.specs.declared.fault.SigFault.TheVariants as text
 use Rattle.net_signature.proofs.NamesLemmas.{sig_names}
+use Rattle.gf_tower.specs.AnyField.{IsMadeOf}
 use Rattle.gf_tower.specs.FieldFault.{IsFieldFault}
+use Rattle.gf_tower.specs.declared.any_field.AnyField.{AnyField}
+use Rattle.gf_tower.specs.declared.any_field.AnyField.TheVariants.{Base, Tower, Upper}
 use Rattle.gf_tower.specs.declared.any_field.FieldFault.{FieldFault}
 use Rattle.job_words.specs.declared.fault.Fault.TheVariants.{Signature}
 use Rattle.job_words.specs.declared.signature_fault.SignatureFault.{SignatureFault}
@@ -16,12 +19,18 @@ use Rattle.job_words.specs.Stop.{GivesBy}
 use Rattle.job_input.specs.FieldOf.{FieldValue, field_fault, FieldOf}
 use Rattle.job_input.specs.SettingOf.{signature_fault_of, feeds_within, BasesOf, SignedValue, SignedOf, SettingOf, SettingWith}
 use Rattle.job_input.specs.SettingValue.{SettingValue}
-use Rattle.job_input.specs.Setting.{signed_value, text_stop}
+use Rattle.job_input.specs.Setting.{signed_value, text_stop, IsNamedBy}
 
 -- a signature whose field is named
 pub signed_is : (bytes : List ℕ) (said : SignatureValue) (field : FieldValue) → Sig bytes (Ok said) → FieldOf said.modulus said.tower said.upper (Ok field) → SignedOf bytes (Ok (record { signature = said; field = field }))
 unfolding SignedOf
 signed_is bytes said field text_ok field_ok = (said, text_ok, (field, field_ok, refl))
+
+-- the field that is made of the numbers of the signature is the one that it names
+pub named_by : (signature : SignatureValue) (field : AnyField) → IsMadeOf field signature.modulus signature.tower signature.upper → IsNamedBy signature field
+named_by signature (Base field) made = record { modulus = made.0; tower = sym made.1; upper = sym made.2 }
+named_by signature (Tower field) made = record { modulus = made.0; tower = made.1; upper = sym made.2 }
+named_by signature (Upper field) made = record { modulus = made.0; tower = made.1; upper = made.2 }
 
 -- a fault of its field is its own
 pub field_fails : (bytes : List ℕ) (said : SignatureValue) → Sig bytes (Ok said) → (fault : FieldFault) → IsFieldFault said.modulus said.tower said.upper fault → GivesBy signed_value (Err (Refused (Signature (field_fault fault)))) (Within Signature (SignedOf bytes)) ⊥ ⊥

@@ -1,5 +1,5 @@
 -- What a `Setting` is made of, and the stops of its making. Source: this project's own.
-use Rattle.std.specs.Prelude.{◌≡◌, ◌≢◌, ℕ, ◌*◌, ◌≤◌, List, filter, length, map, Result, Ok}
+use Rattle.std.specs.Prelude.{◌≡◌, ◌≢◌, ℕ, ◌*◌, ◌≤◌, List, [], filter, length, map, Result, Ok}
 use Rattle.lists.specs.Lists.{Has}
 use Rattle.net_words.specs.Binding.{AreWords, BoundNet}
 use Rattle.net_words.specs.Feeds.{AreFeeds}
@@ -63,6 +63,28 @@ elements_of_each bases = map elements_of bases
 abbrev pub field_value : AnyField → FieldValue
 field_value field = record { k = any_degree field; product = any_product field }
 
+-- its modulus, and the coefficients of its first and of its second tower step, none of a step that it has not
+abbrev pub any_modulus : AnyField → ℕ
+any_modulus (Base field) = modulus_of (ring_of field)
+any_modulus (Tower field) = modulus_of (ring_of (base_of (ring_of field)))
+any_modulus (Upper field) = modulus_of (ring_of (base_of (ring_of (base_of (ring_of field)))))
+
+abbrev pub any_tower : AnyField → List ℕ
+any_tower (Base field) = []
+any_tower (Tower field) = coefficients_of (ring_of field)
+any_tower (Upper field) = coefficients_of (ring_of (base_of (ring_of field)))
+
+abbrev pub any_upper : AnyField → List ℕ
+any_upper (Base field) = []
+any_upper (Tower field) = []
+any_upper (Upper field) = coefficients_of (ring_of field)
+
+-- the field is the one that the signature names
+pub record IsNamedBy (signature : SignatureValue) (field : AnyField) : Type 0 where
+  pub modulus : any_modulus field ≡ signature.modulus
+  pub tower : any_tower field ≡ signature.tower
+  pub upper : any_upper field ≡ signature.upper
+
 -- a signature with its field
 abbrev pub signed_value : Signed → SignedValue
 signed_value signed = record { signature = signed.signature; field = field_value signed.field }
@@ -70,6 +92,10 @@ signed_value signed = record { signature = signed.signature; field = field_value
 -- a setting over a field by its signature, the field and the elements of its bases
 abbrev pub setting_value : ℕ → (ℕ → ℕ → ℕ) → Setting → SettingValue
 setting_value k product setting = record { signature = setting.signature; k = k; product = product; bases = elements_of_each setting.bases.items }
+
+-- a setting over this field
+abbrev pub setting_in : AnyField → Setting → SettingValue
+setting_in field setting = setting_value (any_degree field) (any_product field) setting
 
 -- each basis is one of the field of 2 to the k elements with this product
 abbrev pub AreBasesOver : ℕ → (ℕ → ℕ → ℕ) → List Basis → Type 0

@@ -12,6 +12,7 @@ mod hierarchy;
 mod labels;
 mod laws;
 mod modulus;
+mod named_setting;
 mod netlist;
 mod second;
 mod setting;
@@ -30,6 +31,7 @@ pub use laws::{
     one_setting_or_fault, one_specification_or_fault, one_table_file_or_fault,
 };
 pub use modulus::field_of_modulus;
+pub use named_setting::NamedSetting;
 pub use second::read_second;
 pub use setting::{Setting, bases_of, setting_over};
 pub use signed::{Signed, read_signed};

@@ -36,6 +36,7 @@ pub fn setting_over<F: Field>(
     requires said { AreSaid signature }
     ensures gives { GivesBy (setting_value (F.degree field.now) (F.product field.now)) result (SettingOver (F.degree field.now) (F.product field.now) signature) ⊥ ⊥ }
     ensures ready { IfOk result (λ setting. IsReady (F.degree field.now) (F.product field.now) setting) }
+    ensures own { IfOk result (λ setting. setting.signature ≡ signature) }
 {
     let bases = match bases_of(alloc, field, signature.words()) {
         Ok(bases) => bases,

@@ -8,7 +8,7 @@ ghost use Rattle.job_input.specs.FieldOf.{field_fault as fault_of_field};
 ghost use Rattle.job_input.specs.Reads.{GivesOver};
 ghost use Rattle.job_input.specs.SettingOf.{SignedOf};
 ghost use Rattle.job_input.specs.SignedIn.{SignedIn};
-ghost use Rattle.job_input.specs.Setting.{signed_value, text_stop as stop_of_text, AreSaid};
+ghost use Rattle.job_input.specs.Setting.{signed_value, text_stop as stop_of_text, AreSaid, IsNamedBy};
 
 use crate::files::read_file;
 use gf_tower::{AnyField, FieldFault};
@@ -32,6 +32,7 @@ pub fn read_signed<S: Shelf>(alloc: Global, shelf: &mut S, file: &str) -> Result
     ensures never_fall { (S.faults shelf.old ≤ S.faults shelf.new) × (S.misses shelf.old ≤ S.misses shelf.new) }
     ensures gives { GivesOver S.held S.misses S.faults shelf.old shelf.new signed_value result (λ held. SignedIn held file.now) }
     ensures said { IfOk result (λ signed. AreSaid signed.signature) }
+    ensures named { IfOk result (λ signed. IsNamedBy signed.signature signed.field) }
 {
     let text = match read_file(alloc, shelf, file) {
         Ok(text) => text,
@@ -45,6 +46,7 @@ fn signed_of(alloc: Global, text: &[u8]) -> Result<Signed, Stop>
     requires { length text.now ≤ 67108864 }
     ensures gives { GivesBy signed_value result (Within Signature (SignedOf text.now)) ⊥ ⊥ }
     ensures said { IfOk result (λ signed. AreSaid signed.signature) }
+    ensures named { IfOk result (λ signed. IsNamedBy signed.signature signed.field) }
 {
     let signature = match read_signature(alloc, text) {
         Ok(signature) => signature,

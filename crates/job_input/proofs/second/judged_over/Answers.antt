@@ -8,15 +8,15 @@ use Rattle.job_input.specs.SignedIn.{SecondOf}
 use Rattle.job_input.proofs.SecondLemmas.{second_taken, word_stop}
 use Rattle.job_input.proofs.second.judged_over.Goals as goal
 
-pub returns-in-Ok : goal.returns-in-Ok
-returns-in-Ok g c =
+pub returns-in-Ok-clause-gives : goal.returns-in-Ok-clause-gives
+returns-in-Ok-clause-gives g c =
     let degree = g.F.Ring.degree c.args.field.now in
     let product = g.F.Ring.product c.args.field.now in
     let signed : SignedValue = record { signature = c.args.signature; field = record { k = degree; product = product } } in
     second_taken signed (setting_value degree product c.in-Ok.setting) c.in-Ok.ensures.gives
 
-pub returns-in-Err : goal.returns-in-Err
-returns-in-Err g c =
+pub returns-in-Err-clause-gives : goal.returns-in-Err-clause-gives
+returns-in-Err-clause-gives g c =
     let degree = g.F.Ring.degree c.args.field.now in
     let product = g.F.Ring.product c.args.field.now in
     let signed : SignedValue = record { signature = c.args.signature; field = record { k = degree; product = product } } in

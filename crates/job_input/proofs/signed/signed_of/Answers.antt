@@ -3,7 +3,7 @@ use Rattle.net_signature.proofs.FeedLemmas.{no_upper}
 use Rattle.job_input.specs.Setting.{field_value}
 use Rattle.job_input.proofs.FieldLemmas.{field_made}
 use Rattle.job_input.proofs.SettingWordLemmas.{text_said}
-use Rattle.job_input.proofs.SignedLemmas.{signed_is, text_fails, field_fails}
+use Rattle.job_input.proofs.SignedLemmas.{named_by, signed_is, text_fails, field_fails}
 use Rattle.job_input.proofs.signed.signed_of.Goals as goal
 
 pub new-requires : goal.new-requires
@@ -27,3 +27,7 @@ returns-in-Ok-new-clause-gives c =
 
 pub returns-in-Ok-new-clause-said : goal.returns-in-Ok-new-clause-said
 returns-in-Ok-new-clause-said c = text_said c.args.text.now c.in-Ok.signature c.in-Ok.ensures
+
+pub returns-in-Ok-new-clause-named : goal.returns-in-Ok-new-clause-named
+returns-in-Ok-new-clause-named c =
+    named_by c.in-Ok.signature c.in-Ok-new.field (rw (c.modulus.ensures, c.tower.ensures, c.upper.ensures) at c.in-Ok-new.ensures.made)
