@@ -1,0 +1,7 @@
+use Rattle.std.proofs.Common.{◌≤◌, length, subst}
+use Rattle.cert_check.specs.private.Waiting.{Gathered, most_of}
+use Rattle.cert_check.proofs.WaitingLemmas.{not_more}
+use Rattle.cert_check.proofs.term_sum.TermSum.has_at_most.Goals as goal
+
+pub returns-clause-few : goal.returns-clause-few
+returns-clause-few c = let P : Gathered → Type 0 = λ g. length g.terms ≤ most_of g in subst P c.self.view_is (not_more c.self.inside.map.terms c.self.inside.waiting)

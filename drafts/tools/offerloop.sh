@@ -1,0 +1,16 @@
+# takes rlibs from the copies in which rt ci works and offers them from $CLONES/gate
+while :; do
+  for log in $NOTES/gate*.log; do
+    for c in job_io $(sed -n 's/^rt: \([a-z_0-9]*\) \(proved\|is kept\).*/\1/p' $log); do
+      [ -d $CLONES/gate/crates/$c/out/rlib ] && continue
+      for r in $TMP/rt-copy-*/repo $CLONES/gatew $CLONES/gateb; do
+        if [ -d $r/crates/$c/out/rlib/$c.rlib ] && [ "$(cd $CLONES/gate/crates/$c && cat src/*.rt specs/*.antt 2>/dev/null | md5sum)" = "$(cd $r/crates/$c && cat src/*.rt specs/*.antt 2>/dev/null| md5sum)" ]; then
+          mkdir -p $CLONES/gate/crates/$c/out && sleep 3 && rm -rf $CLONES/gate/crates/$c/out/rlib.new && cp -R $r/crates/$c/out/rlib $CLONES/gate/crates/$c/out/rlib.new && diff -rq $r/crates/$c/out/rlib $CLONES/gate/crates/$c/out/rlib.new && mv $CLONES/gate/crates/$c/out/rlib.new $CLONES/gate/crates/$c/out/rlib && echo "taken $c"; new=1; break
+        fi
+      done
+    done
+    true
+  done
+  [ -n "$new" ] && for log in $NOTES/gate*.log; do nice -n 5 python3 $NOTES/offer.py $CLONES/gate $log 2>/dev/null; done; new=""
+  sleep 15
+done
