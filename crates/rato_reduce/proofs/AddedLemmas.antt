@@ -4,13 +4,31 @@ use Rattle.std.specs.Prelude.{slice_get, slice_set}
 use lib.Bits.{xor_zero_l, xor_zero_r, xor_assoc, xor_comm, xor_self}
 use Rattle.std.specs.List.{AllByRecursion, filter}
 use Rattle.std.proofs.lemmas.Bool.{eqb-true, eqb-false}
-use Rattle.std.proofs.lemmas.List.{length-set}
 use Rattle.lists.specs.laws.OptionLaws.{same_some}
 use Rattle.poly_mixed.specs.Monomial.{Monomial, text_cmp}
 use Rattle.poly_mixed.specs.Polynomial.{Terms}
 use Rattle.poly_mixed.specs.Cofactor.{cofactors, lacking}
 use Rattle.poly_mixed.proofs.SumLemmas.{at_additive}
-use Rattle.rato_reduce.specs.private.Buckets.{at_monomial, coefficient_in, AddsAt, AreAddedUp, ArePlaced, AreTaken, HasSameBits, HaveSameSum, IsLine, IsPlaced}
+use Rattle.rato_reduce.specs.private.Buckets.{at_monomial, coefficient_in, ArePlaced, AreTaken, HaveSameSum, IsLine, IsPlaced}
+
+-- the terms at two indices are of the same product
+pub record HaveSameProduct (terms : Terms) (index i : ℕ) : Type 0 where
+  pub one : Monomial × ℕ
+  pub other : Monomial × ℕ
+  pub got_one : slice_get terms index ≡ Some one
+  pub got_other : slice_get terms i ≡ Some other
+  pub same : one.0 ≡ other.0
+
+-- to the coefficient of the term at an index one is added
+pub record AddsToTerm (old new : Terms) (i c : ℕ) : Type 0 where
+  pub term : Monomial × ℕ
+  pub got : slice_get old i ≡ Some term
+  pub set : new ≡ slice_set old i (term.0, bit_xor term.1 c)
+
+-- terms of the same products have the same sum
+pub record AreSummed (old new : Terms) : Type 0 where
+  pub sums : HaveSameSum old new
+  pub each : (places : List ℕ) (level : ℕ) → ArePlaced places level old → ArePlaced places level new
 
 -- ---- one term is another
 
@@ -56,22 +74,19 @@ changed q m a c =
     ∙ ap (λ n. bit_xor n y) (xor_self x)
     ∙ xor_zero_l y
 
-adds_sum : (q : Monomial) (old new : Terms) (i c : ℕ) (adds : AddsAt old new i c) → coefficient_in q new ≡ bit_xor (coefficient_in q old) (at_monomial q (adds.term.0, c))
+adds_sum : (q : Monomial) (old new : Terms) (i c : ℕ) (adds : AddsToTerm old new i c) → coefficient_in q new ≡ bit_xor (coefficient_in q old) (at_monomial q (adds.term.0, c))
 adds_sum q old new i c adds =
     ap (coefficient_in q) adds.set
     ∙ set_sum q old i adds.term (adds.term.0, bit_xor adds.term.1 c) adds.got
     ∙ ap (bit_xor (coefficient_in q old)) (changed q adds.term.0 adds.term.1 c)
 
-adds_each : (places : List ℕ) (level : ℕ) (old new : Terms) (i c : ℕ) → AddsAt old new i c → ArePlaced places level old → ArePlaced places level new
+adds_each : (places : List ℕ) (level : ℕ) (old new : Terms) (i c : ℕ) → AddsToTerm old new i c → ArePlaced places level old → ArePlaced places level new
 adds_each places level old new i c adds all =
     let P : Terms → Type 0 = ArePlaced places level in
     subst P (sym adds.set) (all_set (λ t. IsPlaced places level t.0) old i adds.term (adds.term.0, bit_xor adds.term.1 c) all adds.got (λ p. p))
 
-pub adds_long : (old new : Terms) (i c : ℕ) → AddsAt old new i c → length new ≡ length old
-adds_long old new i c adds = ap length adds.set ∙ length-set old i (adds.term.0, bit_xor adds.term.1 c)
-
 -- the coefficient of one term was added to it, and to one of the same product
-pub moved : (old mid new : Terms) (to from c : ℕ) → HasSameBits old to from → AddsAt old mid from c → AddsAt mid new to c → AreAddedUp old new
+pub moved : (old mid new : Terms) (to from c : ℕ) → HaveSameProduct old to from → AddsToTerm old mid from c → AddsToTerm mid new to c → AreSummed old new
 moved old mid new to from c has first second =
     let at_from : first.term.0 ≡ has.other.0 = ap (λ (x : Monomial × ℕ). x.0) (same_some first.term has.other (sym first.got ∙ has.got_other)) in
     let P : Terms → Type 0 = λ ts. slice_get ts to ≡ Some second.term in
@@ -87,12 +102,6 @@ moved old mid new to from c has first second =
           ∙ xor_zero_r (coefficient_in q old);
       each = λ places level all. adds_each places level mid new to c second (adds_each places level old mid from c first all);
     }
-
-pub not_added : (old : Terms) → AreAddedUp old old
-not_added old = record { sums = λ q. refl; each = λ places level all. all }
-
-pub added_more : (old mid new : Terms) → AreAddedUp old mid → AreAddedUp mid new → AreAddedUp old new
-added_more old mid new one two = record { sums = λ q. two.sums q ∙ one.sums q; each = λ places level all. two.each places level (one.each places level all) }
 
 -- ---- without zeros
 
@@ -120,10 +129,10 @@ placed : (places : List ℕ) (level : ℕ) (ts : Terms) → AllByRecursion (IsLi
 placed places level [] all = tt
 placed places level (t ∷ ts) all = (all.0.placed, placed places level ts all.1)
 
-pub merged_sums : (old mid new : Terms) → AreAddedUp old mid → new ≡ filter stays mid → HaveSameSum old new
+pub merged_sums : (old mid new : Terms) → AreSummed old mid → new ≡ filter stays mid → HaveSameSum old new
 merged_sums old mid new added kept q = ap (coefficient_in q) kept ∙ zeros_sum q mid ∙ added.sums q
 
-pub merged_each : (old mid new : Terms) (places : List ℕ) (level : ℕ) → AreAddedUp old mid → new ≡ filter stays mid → AllByRecursion (IsLine places level) old → AllByRecursion (IsLine places level) new
+pub merged_each : (old mid new : Terms) (places : List ℕ) (level : ℕ) → AreSummed old mid → new ≡ filter stays mid → AllByRecursion (IsLine places level) old → AllByRecursion (IsLine places level) new
 merged_each old mid new places level added kept all =
     let P : Terms → Type 0 = AllByRecursion (IsLine places level) in
     subst P (sym kept) (zeros_each places level mid (added.each places level (placed places level old all)))

@@ -1,4 +1,5 @@
 mod RankLemmas
+mod ShortListLemmas
 mod EliminationLemmas
 mod PutInLemmas
 mod FirstCutLemmas
@@ -14,5 +15,7 @@ mod ConstantLemmas
 mod ProductLemmas
 mod RetainedLemmas
 mod AddedLemmas
+mod RowLemmas
 mod BucketLemmas
+mod LevelLemmas
 mod SilentLemmas

@@ -2,3 +2,4 @@ pub mod CutKey
 pub mod CutTerms
 pub mod Buckets
 pub mod EntryList
+pub mod Rows

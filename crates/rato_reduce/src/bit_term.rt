@@ -1,5 +1,5 @@
 //! Terms without words.
-ghost use Rattle.std.specs.Prelude.{◌≡◌, [], IfOk, OnOk, IsTrue, bit_xor};
+ghost use Rattle.std.specs.Prelude.{◌≡◌, [], IfOk};
 ghost use Rattle.std.specs.List.{AllByRecursion};
 ghost use Rattle.poly_mixed.specs.Monomial.{text_cmp};
 ghost use Rattle.poly_mixed.specs.Sum.{plus};
@@ -49,20 +49,6 @@ impl BitTerm {
     {
         self.coefficient
     }
-
-    /// Whether it is seen to be a product of the same bits.
-    pub fn has_bits_of(&self, other: &BitTerm) -> bool
-        ensures { IsTrue result → self.now.0 ≡ other.now.0 }
-    {
-        self.bits.as_slice() == other.bits.as_slice()
-    }
-
-    /// Adds to its coefficient.
-    pub fn add(&mut self, c: u64)
-        ensures { self.new ≡ (self.old.0, bit_xor self.old.1 c) }
-    {
-        self.coefficient ^= c;
-    }
 }
 
 /// The polynomial of these terms.
@@ -76,16 +62,4 @@ pub fn poly_of(alloc: Global, terms: &[BitTerm]) -> Result<Poly, AllocError>
         sum.add_term(mono, term.coefficient())?;
     }
     Ok(sum)
-}
-
-/// Adds these terms to a polynomial. After running out of memory it is not used again.
-pub fn add_terms(alloc: Global, terms: &[BitTerm], sum: &mut Poly) -> Result<(), AllocError>
-    requires { AllByRecursion IsBitTerm terms.now }
-    ensures { OnOk result (sum.new.terms ≡ plus text_cmp sum.old.terms terms.now) }
-{
-    for term in terms {
-        let mono = Mono::new(alloc, term.bits().as_slice(), &[0; 8])?;
-        sum.add_term(mono, term.coefficient())?;
-    }
-    Ok(())
 }

@@ -1,34 +1,37 @@
 //! Terms in no order.
-ghost use Rattle.std.specs.Prelude.{◌≡◌, ◌<◌, ◌++◌, ◌∷◌, ℕ, List, [], length, IsTrue, IfSome, OnOk, OnErr};
-ghost use Rattle.std.specs.List.{AllByRecursion};
+ghost use Rattle.std.specs.Prelude.{◌≡◌, ◌++◌, ◌∷◌, ℕ, List, [], length, not, nat_eq, IfOk, OnOk, OnErr};
+ghost use Rattle.std.specs.List.{AllByRecursion, list_any};
 ghost use Rattle.poly_mixed.specs.Cofactor.{cofactors, lacking};
 ghost use Rattle.rato_reduce.specs.private.CutTerms.{of_bits};
-ghost use Rattle.rato_reduce.specs.private.Buckets.{AddsAt, AreAddedUp, AreTaken, HasSameBits, HaveSameSum, IsLine};
+ghost use Rattle.rato_reduce.specs.private.Buckets.{AreTaken, HaveSameSum, IsLine};
+ghost use Rattle.rato_reduce.specs.private.Rows.{lines_of, IsInside};
 
-use crate::bit_term::BitTerm;
-use crate::key::hash;
-use crate::ranks::Ranks;
+use crate::merge::merge_rows;
+use crate::room::leave_out;
+use crate::row::{Row, bits_of, hash_of};
 use crate::stop::Stop;
 use std::alloc::{AllocError, Global};
 use std::marker::Model;
 
-// So many places of a table are looked at for a term.
-const LOOKS: usize = 16;
-
-/// Terms in no order; one product of bits may stand more than once. If there are `merged` of them, equal ones were added up
-/// as far as a few looks find them.
+/// Terms in no order, whose bits stand one behind the other in one list; one product of bits may stand more than once. If
+/// there are `merged` of them, equal ones were added up as far as a few looks find them.
 #[derive(Drop)]
 pub struct Bucket {
-    terms: Vec<BitTerm>,
+    ranks: Vec<u32>,
+    rows: Vec<Row>,
     merged: usize,
 }
 
 impl Model for Bucket {
+    ghost use Rattle.std.specs.List.{AllByRecursion};
     ghost use Rattle.poly_mixed.specs.Polynomial.{Terms};
+    ghost use Rattle.rato_reduce.specs.private.Rows.{lines_of, IsInside};
 
     ghost Value = { Terms };
 
-    ghost view = { λ b. b.terms.items };
+    ghost view = { λ b. lines_of b.ranks.items b.rows.items };
+
+    ghost invariant = { λ b. AllByRecursion (IsInside b.ranks.items) b.rows.items };
 }
 
 impl Bucket {
@@ -37,7 +40,8 @@ impl Bucket {
         ensures { result ≡ [] }
     {
         Bucket {
-            terms: Vec::new(alloc),
+            ranks: Vec::new(alloc),
+            rows: Vec::new(alloc),
             merged: 0,
         }
     }
@@ -46,23 +50,31 @@ impl Bucket {
     pub fn len(&self) -> usize
         ensures { result ≡ length self.now }
     {
-        self.terms.len()
+        self.rows.len()
     }
 
-    /// The terms.
-    pub fn as_slice(&self) -> &[BitTerm]
-        ensures { result.now ≡ self.now }
+    /// The bits of all terms, and their rows.
+    pub fn parts(&self) -> (&[u32], &[Row])
+        ensures { lines_of result.0.now result.1.now ≡ self.now }
     {
-        self.terms.as_slice()
+        (self.ranks.as_slice(), self.rows.as_slice())
+    }
+
+    /// Lets go of all terms, and keeps the memory.
+    pub fn clear(&mut self)
+        ensures { self.new ≡ [] }
+    {
+        self.rows.clear();
+        self.ranks.clear();
+        self.merged = 0;
     }
 
     /// Adds one more term, equal to another one or not.
-    pub fn push(&mut self, term: BitTerm) -> Result<(), AllocError>
-        ensures pushed { OnOk result (self.new ≡ self.old ++ term ∷ []) }
+    pub fn push(&mut self, bits: &[u32], hash: u64, coefficient: u64) -> Result<(), AllocError>
+        ensures pushed { OnOk result (self.new ≡ self.old ++ (of_bits bits.now, coefficient) ∷ []) }
         ensures kept { OnErr result (self.new ≡ self.old) }
     {
-        self.terms.push(term)?;
-        Ok(())
+        push_row(&mut self.ranks, &mut self.rows, bits, hash, coefficient)
     }
 
     /// Adds up equal terms that a few looks find, which are most of them.
@@ -74,147 +86,136 @@ impl Bucket {
         if self.is_merged() {
             return Ok(());
         }
-        let mut table = vec![in alloc; 0; self.terms.len().saturating_mul(4)]?;
-        add_up(self.terms.as_mut_slice(), table.as_mut_slice());
-        self.terms.retain(|term| term.coefficient() != 0);
-        self.merged = self.terms.len();
+        merge_rows(alloc, self.ranks.as_slice(), &mut self.rows)?;
+        self.merged = self.rows.len();
+        Ok(())
+    }
+
+    /// Puts the bits of the terms together, if more than half of those in the list are of no term any more.
+    pub fn pack(&mut self, alloc: Global) -> Result<(), AllocError>
+        ensures { self.new ≡ self.old }
+    {
+        if self.ranks.len() / 2 <= used(self.rows.as_slice()) {
+            return Ok(());
+        }
+        let mut packed = copied(alloc, self.ranks.as_slice(), self.rows.as_slice())?;
+        packed.merged = self.merged;
+        *self = packed;
         Ok(())
     }
 
     // Whether nothing came since equal terms were added up.
     fn is_merged(&self) -> bool {
-        self.terms.len() < 2 || self.terms.len() == self.merged
+        self.rows.len() < 2 || self.rows.len() == self.merged
     }
 
     /// Puts the terms without the bit into the part, which is empty, after equal ones were added up; each has to have it.
-    pub fn take_out(mut self, alloc: Global, rank: u32, part: &mut Vec<BitTerm>) -> Result<(), Stop>
-        requires { part.old.items ≡ [] }
-        ensures { OnOk result (AreTaken rank self part.new.items) }
+    pub fn take_out(
+        mut self,
+        alloc: Global,
+        rank: u32,
+        part: &mut Bucket,
+        room: &mut Vec<u32>,
+    ) -> Result<(), Stop>
+        requires { part.old ≡ [] }
+        ensures { OnOk result (AreTaken rank self part.new) }
     {
         self.merge(alloc)?;
-        take_each(self.terms.as_slice(), rank, part)
+        take_each(
+            self.ranks.as_slice(),
+            self.rows.as_slice(),
+            rank,
+            part,
+            room,
+        )
     }
 }
 
-// Puts a term into the part, without the bit, which it has to have.
-fn take_one(bits: Ranks, c: u64, rank: u32, part: &mut Vec<BitTerm>) -> Result<(), Stop>
-    ensures part { OnOk result (part.new.items ≡ part.old.items ++ cofactors rank ((of_bits bits, c) ∷ [])) }
-    ensures others { OnOk result (lacking rank ((of_bits bits, c) ∷ []) ≡ []) }
+// How many bits the terms of rows have, if they stand apart.
+fn used(rows: &[Row]) -> usize {
+    let mut used: usize = 0;
+    for row in rows {
+        used = used.saturating_add(row.stop.saturating_sub(row.start));
+    }
+    used
+}
+
+// The same terms, with their bits one behind the other.
+fn copied(alloc: Global, ranks: &[u32], rows: &[Row]) -> Result<Bucket, AllocError>
+    ensures { IfOk result (λ bucket. bucket ≡ lines_of ranks.now rows.now) }
 {
-    if !bits.has(rank) {
+    let mut bucket = Bucket::new(alloc);
+    for row in rows {
+        bucket.push(bits_of(ranks, row), row.hash, row.coefficient)?;
+    }
+    Ok(bucket)
+}
+
+// Adds one more row of these bits.
+fn push_row(
+    ranks: &mut Vec<u32>,
+    rows: &mut Vec<Row>,
+    bits: &[u32],
+    hash: u64,
+    coefficient: u64,
+) -> Result<(), AllocError>
+    requires { AllByRecursion (IsInside ranks.old.items) rows.old.items }
+    ensures inside { AllByRecursion (IsInside ranks.new.items) rows.new.items }
+    ensures pushed { OnOk result (lines_of ranks.new.items rows.new.items ≡ lines_of ranks.old.items rows.old.items ++ (of_bits bits.now, coefficient) ∷ []) }
+    ensures kept { OnErr result (lines_of ranks.new.items rows.new.items ≡ lines_of ranks.old.items rows.old.items) }
+{
+    let start = ranks.len();
+    ranks.extend_from_slice(bits)?;
+    let stop = ranks.len();
+    rows.push(Row {
+        start,
+        stop,
+        hash,
+        coefficient,
+    })?;
+    Ok(())
+}
+
+// Whether the rank is among these.
+fn has(ranks: &[u32], rank: u32) -> bool
+    ensures { result ≡ list_any (λ r. nat_eq r rank) ranks.now }
+{
+    ranks.contains(&rank)
+}
+
+// Puts a term into the part, without the bit, which it has to have.
+fn take_one(
+    ranks: &[u32],
+    row: &Row,
+    rank: u32,
+    part: &mut Bucket,
+    room: &mut Vec<u32>,
+) -> Result<(), Stop>
+    ensures part { OnOk result (part.new ≡ part.old ++ cofactors rank (lines_of ranks.now (row.now ∷ []))) }
+    ensures others { OnOk result (lacking rank (lines_of ranks.now (row.now ∷ [])) ≡ []) }
+{
+    let bits = bits_of(ranks, row);
+    if !has(bits, rank) {
         return Err(Stop::GivesUp);
     }
-    let rest = bits.without(rank);
-    part.push(BitTerm::new(rest, c))?;
+    leave_out(room, bits, rank)?;
+    part.push(room.as_slice(), row.hash ^ hash_of(rank), row.coefficient)?;
     Ok(())
 }
 
 // Puts terms into the part, without the bit, which each has to have.
-fn take_each(terms: &[BitTerm], rank: u32, part: &mut Vec<BitTerm>) -> Result<(), Stop>
-    ensures part { OnOk result (part.new.items ≡ part.old.items ++ cofactors rank terms.now) }
-    ensures others { OnOk result (lacking rank terms.now ≡ []) }
+fn take_each(
+    ranks: &[u32],
+    rows: &[Row],
+    rank: u32,
+    part: &mut Bucket,
+    room: &mut Vec<u32>,
+) -> Result<(), Stop>
+    ensures part { OnOk result (part.new ≡ part.old ++ cofactors rank (lines_of ranks.now rows.now)) }
+    ensures others { OnOk result (lacking rank (lines_of ranks.now rows.now) ≡ []) }
 {
-    for term in terms {
-        let bits = term.bits().copied()?;
-        take_one(bits, term.coefficient(), rank, part)?;
+    for row in rows {
+        take_one(ranks, row, rank, part, room)?;
     }
     Ok(())
-}
-
-// Whether the term at an index is seen to be a product of the bits of that at another.
-fn has_bits(terms: &[BitTerm], index: usize, i: usize) -> bool
-    requires { i < length terms.now }
-    ensures { IsTrue result → HasSameBits terms.now index i }
-{
-    match terms.get(index) {
-        Some(other) => other.has_bits_of(&terms[i]),
-        None => false,
-    }
-}
-
-// The first place of a table in which a term of this hash is looked for.
-fn first_look(table: &[usize], hash: u64) -> usize {
-    (hash >> 32) as usize % table.len().max(1)
-}
-
-// The index of a term with the bits of that at another index, if a few looks into the table find it. The table has at its
-// places 0, or the number of a term, counted from 1; which of them it has decides how many terms are found, and nothing else.
-fn find(terms: &[BitTerm], table: &[usize], i: usize, hash: u64) -> Option<usize>
-    requires { i < length terms.now }
-    ensures { IfSome result (λ index. HasSameBits terms.now index i) }
-{
-    let mut place = first_look(table, hash);
-    for _ in 0..LOOKS {
-        let number = match table.get(place) {
-            Some(number) => *number,
-            None => 0,
-        };
-        if number == 0 {
-            return None;
-        }
-        if has_bits(terms, number - 1, i) {
-            return Some(number - 1);
-        }
-        place = place.wrapping_add(1);
-    }
-    None
-}
-
-// Puts the number of a term into the table, if a few looks find an empty place.
-fn note(table: &mut [usize], hash: u64, number: usize) {
-    let mut place = first_look(table, hash);
-    for _ in 0..LOOKS {
-        match table.get_mut(place) {
-            Some(there) => {
-                if *there == 0 {
-                    *there = number;
-                    return;
-                }
-            }
-            None => return,
-        }
-        place = place.wrapping_add(1);
-    }
-}
-
-// Adds to the coefficient of the term at an index.
-fn add_at(terms: &mut [BitTerm], i: usize, c: u64)
-    requires { i < length terms.old }
-    ensures { AddsAt terms.old terms.new i c }
-{
-    terms[i].add(c);
-}
-
-// Adds the coefficient of a term to one with its bits, and leaves 0 there.
-fn move_to(terms: &mut [BitTerm], to: usize, from: usize)
-    requires { HasSameBits terms.old to from }
-    ensures same { AreAddedUp terms.old terms.new }
-    ensures long { length terms.new ≡ length terms.old }
-{
-    let c = terms[from].coefficient();
-    add_at(terms, from, c);
-    add_at(terms, to, c);
-}
-
-// Adds the term at an index to one with its bits, if that is found, and else notes it.
-fn add_one(terms: &mut [BitTerm], table: &mut [usize], i: usize)
-    requires { i < length terms.old }
-    ensures same { AreAddedUp terms.old terms.new }
-    ensures long { length terms.new ≡ length terms.old }
-{
-    let hash = hash(terms[i].bits().as_slice());
-    match find(terms, table, i, hash) {
-        Some(index) => move_to(terms, index, i),
-        None => note(table, hash, i + 1),
-    }
-}
-
-// Adds up equal terms that a few looks into the table find, and leaves 0 in the place of all but one.
-fn add_up(terms: &mut [BitTerm], table: &mut [usize])
-    ensures same { AreAddedUp terms.old terms.new }
-    ensures long { length terms.new ≡ length terms.old }
-{
-    for i in 0..terms.len() {
-        add_one(terms, table, i);
-    }
 }

@@ -7,14 +7,14 @@ ghost use Rattle.poly_mixed.specs.Cofactor.{cofactors, lacking};
 ghost use Rattle.poly_mixed.specs.Monomial.{text_cmp};
 ghost use Rattle.poly_mixed.specs.Sum.{plus, plus_term};
 ghost use Rattle.rato_reduce.specs.private.Buckets.{joined, level_at, AreOut, AreUpTo, HasTermAt, IsCounted, IsMerged, IsMergedAt, StayLevelled};
-ghost use Rattle.rato_reduce.specs.private.CutTerms.{of_bits, products, IsBitTerm};
+ghost use Rattle.rato_reduce.specs.private.CutTerms.{of_bits, IsBitTerm};
+ghost use Rattle.rato_reduce.specs.private.Rows.{lines_of};
 
-use crate::bit_term::{BitTerm, add_terms};
 use crate::bucket::Bucket;
 use crate::key::{first_place, place_of};
-use crate::ranks::Ranks;
+use crate::row::{Row, bits_of};
 use crate::stop::Stop;
-use poly_mixed::Poly;
+use poly_mixed::{Mono, Poly};
 use std::alloc::{AllocError, Global};
 use std::marker::Model;
 
@@ -35,12 +35,11 @@ pub struct Buckets {
 
 impl Model for Buckets {
     ghost use Rattle.std.specs.Prelude.{length};
-    ghost use Rattle.rato_reduce.specs.private.CutTerms.{CutPolynomial};
-    ghost use Rattle.rato_reduce.specs.private.Buckets.{joined, joined_polynomial, AreLevelled, IsCounted};
+    ghost use Rattle.rato_reduce.specs.private.Buckets.{joined, joined_polynomial, AreLevelled, IsCounted, ListedPolynomial};
 
-    ghost Value = { CutPolynomial };
+    ghost Value = { ListedPolynomial };
 
-    ghost view = { λ b. joined_polynomial b.list.items };
+    ghost view = { λ b. joined_polynomial b.places.items b.list.items };
 
     ghost invariant = { λ b. AreLevelled b.places.items 0 b.list.items × IsCounted b.count (length (joined b.list.items)) };
 }
@@ -67,35 +66,52 @@ impl Buckets {
     }
 
     /// Adds a term of rising bits. After running out of memory it is not used again.
-    pub fn add(&mut self, bits: Ranks, c: u64) -> Result<(), AllocError>
-        requires rising { IsStrictlySortedBy nat_cmp bits }
+    pub fn add(&mut self, bits: &[u32], hash: u64, c: u64) -> Result<(), AllocError>
+        requires rising { IsStrictlySortedBy nat_cmp bits.now }
         requires some { c ≢ 0 }
-        ensures { OnOk result (self.new.terms ≡ plus_term text_cmp self.old.terms (of_bits bits, c)) }
+        ensures { OnOk result (self.new.terms ≡ plus_term text_cmp self.old.terms (of_bits bits.now, c)) }
     {
-        let level = level(self.places.as_slice(), bits.as_slice());
-        raise(self.alloc, &mut self.list, level)?;
-        self.count = more(self.count, 1);
-        push_at(self.list.as_mut_slice(), level, BitTerm::new(bits, c))
+        let level = self.level_for(bits);
+        self.add_at(level, bits, hash, c)
     }
 
-    /// Adds the products of a term and of each of these sets of bits. After running out of memory it is not used again.
-    pub fn add_products(&mut self, term: &BitTerm, sets: &[Ranks]) -> Result<(), AllocError>
-        requires { IsBitTerm term.now }
-        ensures { OnOk result (self.new.terms ≡ plus text_cmp self.old.terms (products term.now sets.now)) }
+    /// A level up to which these bits are.
+    pub fn level_for(&self, bits: &[u32]) -> usize
+        ensures { AreUpTo self.now.places result bits.now }
     {
-        for set in sets {
-            let bits = term.bits().union(set)?;
-            self.add(bits, term.coefficient())?;
-        }
-        Ok(())
+        level(self.places.as_slice(), bits)
+    }
+
+    /// Adds a term of rising bits up to a level. After running out of memory it is not used again.
+    pub fn add_at(
+        &mut self,
+        level: usize,
+        bits: &[u32],
+        hash: u64,
+        c: u64,
+    ) -> Result<(), AllocError>
+        requires up_to { AreUpTo self.old.places level bits.now }
+        requires rising { IsStrictlySortedBy nat_cmp bits.now }
+        requires some { c ≢ 0 }
+        ensures sum { OnOk result (self.new.terms ≡ plus_term text_cmp self.old.terms (of_bits bits.now, c)) }
+        ensures places { self.new.places ≡ self.old.places }
+    {
+        raise(self.alloc, &mut self.list, level)?;
+        self.count = more(self.count, 1);
+        push_at(self.list.as_mut_slice(), level, bits, hash, c)
     }
 
     /// Takes out the terms with the bit, and puts them, without it, in place of what `part` held. Equal ones may stand there
     /// apart. After a stop neither is used again.
-    pub fn take_with(&mut self, rank: u32, part: &mut Vec<BitTerm>) -> Result<(), Stop>
+    pub fn take_with(
+        &mut self,
+        rank: u32,
+        part: &mut Bucket,
+        room: &mut Vec<u32>,
+    ) -> Result<(), Stop>
         ensures left { OnOk result (self.new.terms ≡ lacking rank self.old.terms) }
-        ensures part { OnOk result (plus text_cmp [] part.new.items ≡ cofactors rank self.old.terms) }
-        ensures each { OnOk result (AllByRecursion IsBitTerm part.new.items) }
+        ensures part { OnOk result (plus text_cmp [] part.new ≡ cofactors rank self.old.terms) }
+        ensures each { OnOk result (AllByRecursion IsBitTerm part.new) }
     {
         part.clear();
         let level = level_of(self.places.as_slice(), rank);
@@ -106,6 +122,7 @@ impl Buckets {
             level,
             rank,
             part,
+            room,
         )
     }
 
@@ -153,7 +170,20 @@ fn add_lists(alloc: Global, list: &[Bucket], sum: &mut Poly) -> Result<(), Alloc
     ensures { OnOk result (sum.new.terms ≡ plus text_cmp sum.old.terms (joined list.now)) }
 {
     for bucket in list {
-        add_terms(alloc, bucket.as_slice(), sum)?;
+        let (ranks, rows) = bucket.parts();
+        add_rows(alloc, ranks, rows, sum)?;
+    }
+    Ok(())
+}
+
+// Adds the terms of rows to a polynomial.
+fn add_rows(alloc: Global, ranks: &[u32], rows: &[Row], sum: &mut Poly) -> Result<(), AllocError>
+    requires { AllByRecursion IsBitTerm (lines_of ranks.now rows.now) }
+    ensures { OnOk result (sum.new.terms ≡ plus text_cmp sum.old.terms (lines_of ranks.now rows.now)) }
+{
+    for row in rows {
+        let mono = Mono::new(alloc, bits_of(ranks, row), &[0; 8])?;
+        sum.add_term(mono, row.coefficient)?;
     }
     Ok(())
 }
@@ -176,10 +206,11 @@ fn take_last(
     count: &mut u64,
     level: usize,
     rank: u32,
-    part: &mut Vec<BitTerm>,
+    part: &mut Bucket,
+    room: &mut Vec<u32>,
 ) -> Result<(), Stop>
-    requires { part.old.items ≡ [] }
-    ensures taken { OnOk result (AreOut rank list.old.items list.new.items part.new.items) }
+    requires { part.old ≡ [] }
+    ensures taken { OnOk result (AreOut rank list.old.items list.new.items part.new) }
     ensures rest { OnOk result (length list.new.items ≤ level) }
     ensures levelled { StayLevelled list.old.items list.new.items }
     ensures counted { IsCounted count.old (length (joined list.old.items)) → IsCounted count.new (length (joined list.new.items)) }
@@ -191,7 +222,7 @@ fn take_last(
             if list.len() > level {
                 return Err(Stop::GivesUp);
             }
-            bucket.take_out(alloc, rank, part)
+            bucket.take_out(alloc, rank, part, room)
         }
     }
 }
@@ -242,12 +273,12 @@ fn raise(alloc: Global, list: &mut Vec<Bucket>, level: usize) -> Result<(), Allo
 }
 
 // Adds a term to a list.
-fn push_at(list: &mut [Bucket], i: usize, term: BitTerm) -> Result<(), AllocError>
+fn push_at(list: &mut [Bucket], i: usize, bits: &[u32], hash: u64, c: u64) -> Result<(), AllocError>
     requires { i < length list.old }
-    ensures pushed { OnOk result (HasTermAt list.old list.new i term) }
+    ensures pushed { OnOk result (HasTermAt list.old list.new i (of_bits bits.now, c)) }
     ensures kept { OnErr result (list.new ≡ list.old) }
 {
-    list[i].push(term)
+    list[i].push(bits, hash, c)
 }
 
 // Adds up equal terms of a list, and gives the count after that.
@@ -256,6 +287,7 @@ fn merge_counted(alloc: Global, bucket: &mut Bucket, count: u64) -> Result<u64, 
     ensures kept { OnErr result (bucket.new ≡ bucket.old) }
 {
     let before = bucket.len();
+    bucket.pack(alloc)?;
     bucket.merge(alloc)?;
     let others = fewer(count, before);
     Ok(more(others, bucket.len()))

@@ -8,7 +8,6 @@ ghost use Rattle.poly_mixed.specs.Monomial.{text_cmp};
 ghost use Rattle.poly_mixed.specs.Polynomial.{IsReduced, IsTerm};
 ghost use Rattle.poly_mixed.specs.Sum.{plus, plus_term, with_coefficient};
 ghost use Rattle.poly_mixed.specs.Product.{union, with_rank};
-ghost use Rattle.poly_mixed.specs.Table.{table_bit};
 ghost use Rattle.rato_reduce.specs.private.CutTerms.{of_bits, term_of, ends_up_to, products, AreBitEntries, IsBitTerm, IsTaken};
 ghost use Rattle.rato_reduce.specs.Monomials.{monomials};
 
@@ -16,6 +15,7 @@ use crate::bit_term::BitTerm;
 use crate::buckets::Buckets;
 use crate::entries::Entries;
 use crate::key::{Key, place_of};
+use crate::monomials::has_place;
 use crate::ranks::Ranks;
 use poly_mixed::{Mono, Poly};
 use std::alloc::{AllocError, Global};
@@ -237,17 +237,9 @@ fn constant_buckets(alloc: Global, places: Vec<u32>, c: u64) -> Result<Buckets, 
 {
     let mut sum = Buckets::new(alloc, places);
     if c != 0 {
-        sum.add(Ranks::none(alloc), c)?;
+        sum.add(&[], 0, c)?;
     }
     Ok(sum)
-}
-
-// Whether the form of a table has a place.
-fn has_place(form: u64, place: u32) -> bool
-    requires { place < 64 }
-    ensures { result ≡ table_bit form place }
-{
-    (form >> place) & 1 == 1
 }
 
 // Puts the term of an entry into the part, without the bit, if it has the bit, and else into the others.

@@ -10,6 +10,7 @@ ghost use Rattle.rato_reduce.specs.private.EntryList.{only_or};
 
 use crate::buckets::Buckets;
 use crate::key::Key;
+use crate::row::hash_of_all;
 use poly_mixed::{Mono, Poly};
 use std::alloc::{AllocError, Global};
 use std::collections::BTreeMap;
@@ -117,7 +118,8 @@ fn put_term(sum: &mut Buckets, key: &Key, c: u64) -> Result<(), AllocError>
     requires { IsBitTerm (term_of (key.now, c)) }
     ensures { OnOk result (sum.new.terms ≡ plus text_cmp sum.old.terms (term_of (key.now, c) ∷ [])) }
 {
-    sum.add(key.bits().copied()?, c)?;
+    let bits = key.bits().as_slice();
+    sum.add(bits, hash_of_all(bits), c)?;
     Ok(())
 }
 

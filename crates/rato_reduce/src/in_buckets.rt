@@ -18,12 +18,12 @@ ghost use Rattle.rato_reduce.specs.Monomials.{monomials};
 ghost use Rattle.rato_reduce.specs.Recorded.{AreAllRecorded};
 ghost use Rattle.rato_reduce.specs.private.CutTerms.{all_products, IsBitTerm};
 
-use crate::bit_term::BitTerm;
+use crate::bucket::Bucket;
 use crate::buckets::Buckets;
 use crate::eliminate::input_ranks;
 use crate::first_cut::{first_cut, places, rank};
 use crate::monomials::monomials as monomials_of;
-use crate::ranks::Ranks;
+use crate::products::{add_all_pairs, add_all_products};
 use crate::stop::Stop;
 use circuit_model::output_nets;
 use gf_basis::Basis;
@@ -36,47 +36,46 @@ use std::alloc::{AllocError, Global};
 // An output word of fewer bits is not worth the lists.
 const FEW: usize = 2;
 
-// Adds the products of each of the terms and of each of these sets of bits.
-fn add_all_products(cut: &mut Buckets, part: &[BitTerm], sets: &[Ranks]) -> Result<(), AllocError>
-    requires { AllByRecursion IsBitTerm part.now }
-    ensures { OnOk result (cut.new.terms ≡ plus text_cmp cut.old.terms (all_products part.now sets.now)) }
-{
-    for term in part {
-        cut.add_products(term, sets)?;
-    }
-    Ok(())
-}
-
-// Adds the products of the terms and of the form of a table at the inputs of a gate.
+// Adds the products of the terms and of the form of a table at the inputs of a gate. A form of two bits makes no list of sets.
 fn add_form(
     alloc: Global,
     circuit: &Combinational,
     gate: &Gate,
     form: u64,
-    part: &[BitTerm],
+    part: &Bucket,
     cut: &mut Buckets,
+    room: &mut Vec<u32>,
 ) -> Result<(), AllocError>
     requires sound { IsSound circuit.now.net }
     requires gate { Has circuit.now.net.gates gate.now }
     requires part { AllByRecursion IsBitTerm part.now }
     ensures { OnOk result (cut.new.terms ≡ plus text_cmp cut.old.terms (all_products part.now (monomials form [] (ranks_of_inputs circuit.now gate.now) 0 1))) }
 {
-    if part.is_empty() {
+    if part.len() == 0 {
         return Ok(());
     }
-    let ranks = input_ranks(alloc, circuit, gate)?;
-    let sets = monomials_of(alloc, form, &ranks)?;
-    add_all_products(cut, part, &sets)
+    let (ranks, rows) = part.parts();
+    let inputs = gate.inputs();
+    if inputs.len() == 2 {
+        let first = rank(circuit, inputs[0]);
+        let second = rank(circuit, inputs[1]);
+        return add_all_pairs(alloc, cut, ranks, rows, form, first, second, room);
+    }
+    let list = input_ranks(alloc, circuit, gate)?;
+    let sets = monomials_of(alloc, form, &list)?;
+    add_all_products(cut, ranks, rows, &sets, room)
 }
 
-// Puts a gate's table in place of its output. `part` is room for the terms with the net, whatever it holds.
+// Puts a gate's table in place of its output. `part` is room for the terms with the net, and `room` for the bits of one,
+// whatever they hold.
 fn put_gate<F: Field>(
     alloc: Global,
     _field: &F,
     circuit: &Combinational,
     gate: &Gate,
     cut: &mut Buckets,
-    part: &mut Vec<BitTerm>,
+    part: &mut Bucket,
+    room: &mut Vec<u32>,
 ) -> Result<(), Stop>
     requires sound { IsSound circuit.now.net }
     requires gate { Has circuit.now.net.gates gate.now }
@@ -85,9 +84,9 @@ fn put_gate<F: Field>(
     ensures values { OnOk result (HasGatePutIn (F.degree _field.now) (F.product _field.now) (bound_variables circuit.now) gate.now cut.old.terms cut.new.terms) }
 {
     let rank = rank(circuit, gate.out());
-    cut.take_with(rank, part)?;
+    cut.take_with(rank, part, room)?;
     let form = exclusive_form(gate.table());
-    add_form(alloc, circuit, gate, form, part, cut)?;
+    add_form(alloc, circuit, gate, form, part, cut, room)?;
     Ok(())
 }
 
@@ -128,10 +127,11 @@ fn reduce<F: Field>(
     let first = first_cut(alloc, field, circuit, output, &list, places)?;
     let mut cut = first.into_buckets()?;
     check_size(&mut cut, bound)?;
-    let mut part = Vec::new(alloc);
+    let mut part = Bucket::new(alloc);
+    let mut room = Vec::new(alloc);
     for t in 0..order.len() {
         let gate = &net.gates()[order[t] as usize];
-        put_gate(alloc, field, circuit, gate, &mut cut, &mut part)?;
+        put_gate(alloc, field, circuit, gate, &mut cut, &mut part, &mut room)?;
         check_size(&mut cut, bound)?;
     }
     let poly = cut.to_poly()?;

@@ -11,9 +11,13 @@ mod entries;
 mod first_cut;
 mod in_buckets;
 mod key;
+mod merge;
 mod monomials;
+mod products;
 mod ranks;
 mod reduce;
+mod room;
+mod row;
 mod stop;
 
 pub use reduce::reduce_bits;

@@ -1,5 +1,6 @@
 //! The polynomial of a table in the inputs of its gate, as sets of bits.
 ghost use Rattle.std.specs.Prelude.{◌≡◌, ◌+◌, ◌*◌, ◌^◌, ◌<◌, ◌≤◌, ◌++◌, [], length, IfOk, OnOk};
+ghost use Rattle.poly_mixed.specs.Table.{table_bit};
 ghost use Rattle.rato_reduce.specs.Monomials.{monomials};
 
 use crate::ranks::Ranks;
@@ -38,4 +39,12 @@ fn add_monomials(
     add_monomials(form, taken, rest, base, 2 * step, sets)?;
     let more = taken.with(ranks[0])?;
     add_monomials(form, &more, rest, base + step, 2 * step, sets)
+}
+
+/// Whether the form of a table has a place.
+pub fn has_place(form: u64, place: u32) -> bool
+    requires { place < 64 }
+    ensures { result ≡ table_bit form place }
+{
+    (form >> place) & 1 == 1
 }

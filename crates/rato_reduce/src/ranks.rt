@@ -50,7 +50,7 @@ impl Ranks {
         ensures { IfOk result (λ r. r ≡ self.now) }
     {
         Ok(Ranks {
-            items: self.items.clone()?,
+            items: SmallVec::from_slice(*self.items.allocator(), self.items.as_slice())?,
         })
     }
 
@@ -78,7 +78,7 @@ impl Ranks {
     pub fn with(&self, rank: u32) -> Result<Ranks, AllocError>
         ensures { IfOk result (λ r. r ≡ with_rank self.now rank) }
     {
-        let mut items = self.items.clone()?;
+        let mut items = SmallVec::from_slice(*self.items.allocator(), self.items.as_slice())?;
         add_rank(&mut items, rank)?;
         Ok(Ranks { items })
     }
@@ -103,8 +103,8 @@ fn add_rank(items: &mut SmallVec<u32, 16>, r: u32) -> Result<(), AllocError>
     Ok(())
 }
 
-// The index of the first rank that is not below `r`.
-fn place_of(items: &[u32], r: u32) -> usize
+/// The index of the first rank that is not below `r`.
+pub fn place_of(items: &[u32], r: u32) -> usize
     ensures within { result ≤ length items.now }
     ensures place { with_rank items.now r ≡ take result items.now ++ with_rank (drop result items.now) r }
     ensures stop { result < length items.now → r ≤ slice_index items.now result }

@@ -1,5 +1,5 @@
 -- Terms in no order, in lists by the level of their bits. Source: this project's own.
-use Rattle.std.specs.Prelude.{◌≡◌, ◌≢◌, ℕ, suc, ◌+◌, ◌-◌, ◌<◌, ◌≤◌, cond, List, [], ◌∷◌, ◌++◌, length, bit_xor, Some, slice_get, slice_set}
+use Rattle.std.specs.Prelude.{◌≡◌, ◌≢◌, ℕ, suc, ◌+◌, ◌-◌, ◌<◌, ◌≤◌, cond, List, [], ◌∷◌, ◌++◌, length, Some, slice_get, slice_set}
 use Rattle.std.specs.List.{AllByRecursion}
 use Rattle.std.specs.List.Sorted.{IsStrictlySortedBy}
 use Rattle.std.specs.Ordering.{nat_cmp, eq_by_cmp}
@@ -8,7 +8,7 @@ use Rattle.poly_mixed.specs.Polynomial.{Terms}
 use Rattle.poly_mixed.specs.Cofactor.{cofactors, lacking}
 use Rattle.poly_mixed.specs.Sum.{plus, xor_sum}
 use Rattle.rato_reduce.specs.private.CutKey.{place_at}
-use Rattle.rato_reduce.specs.private.CutTerms.{CutPolynomial, of_bits, IsBitTerm}
+use Rattle.rato_reduce.specs.private.CutTerms.{of_bits, IsBitTerm}
 
 -- the coefficient that a term has at a monomial
 abbrev pub at_monomial : Monomial → Monomial × ℕ → ℕ
@@ -45,25 +45,6 @@ pub record IsLine (places : List ℕ) (level : ℕ) (t : Monomial × ℕ) : Type
 abbrev pub ArePlaced : List ℕ → ℕ → Terms → Type 0
 ArePlaced places level ts = AllByRecursion (λ t. IsPlaced places level t.0) ts
 
--- the terms at two indices are products of the same bits
-pub record HasSameBits (terms : Terms) (index i : ℕ) : Type 0 where
-  pub one : Monomial × ℕ
-  pub other : Monomial × ℕ
-  pub got_one : slice_get terms index ≡ Some one
-  pub got_other : slice_get terms i ≡ Some other
-  pub same : one.0 ≡ other.0
-
--- to the coefficient of the term at an index one is added
-pub record AddsAt (old new : Terms) (i c : ℕ) : Type 0 where
-  pub term : Monomial × ℕ
-  pub got : slice_get old i ≡ Some term
-  pub set : new ≡ slice_set old i (term.0, bit_xor term.1 c)
-
--- terms of the same products have the same sum
-pub record AreAddedUp (old new : Terms) : Type 0 where
-  pub sums : HaveSameSum old new
-  pub each : (places : List ℕ) (level : ℕ) → ArePlaced places level old → ArePlaced places level new
-
 -- the part has the terms with the bit, without it, and there are no others; equal ones may have been added
 pub record AreTaken (rank : ℕ) (lines part : Terms) : Type 0 where
   pub taken : Terms
@@ -77,9 +58,14 @@ abbrev pub joined : List Terms → Terms
 joined [] = []
 joined (ts ∷ lists) = ts ++ joined lists
 
+-- what a `Buckets` is: a polynomial, and the place of each rank in the order of elimination
+pub record ListedPolynomial : Type 0 where
+  pub terms : Terms
+  pub places : List ℕ
+
 -- the lists as a polynomial
-abbrev pub joined_polynomial : List Terms → CutPolynomial
-joined_polynomial lists = record { terms = plus text_cmp [] (joined lists) }
+abbrev pub joined_polynomial : List ℕ → List Terms → ListedPolynomial
+joined_polynomial places lists = record { terms = plus text_cmp [] (joined lists); places = places }
 
 -- the bits of the terms of each list are of levels up to its number, where the first list has this one
 abbrev pub AreLevelled : List ℕ → ℕ → List Terms → Type 0

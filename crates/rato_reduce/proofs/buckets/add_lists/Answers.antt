@@ -8,13 +8,13 @@ use Rattle.rato_reduce.specs.private.CutTerms.{IsBitTerm}
 use Rattle.rato_reduce.proofs.BucketLemmas.{each_split, step_lists}
 use Rattle.rato_reduce.proofs.buckets.add_lists.Goals as goal
 
-pub add_terms-requires : goal.add_terms-requires
-add_terms-requires c =
+pub add_rows-requires : goal.add_rows-requires
+add_rows-requires c =
     let lists : List Terms = c.args.list.now in
     let i = c.loop-bucket.bucket-index in
     let next = drop_read lists i c.bucket-item.result c.loop-bucket-test.true c.bucket-item.is in
     let P : Terms → Type 0 = AllByRecursion IsBitTerm in
-    subst P (sym c.as_slice.ensures) (each_split (drop i lists) (drop (i + 1) lists) c.bucket-item.result next c.loop-bucket.invariant.each).0
+    subst P (sym c.parts.ensures) (each_split (drop i lists) (drop (i + 1) lists) c.bucket-item.result next c.loop-bucket.invariant.each).0
 
 pub loop-bucket-preserved : goal.loop-bucket-preserved
 loop-bucket-preserved c =
@@ -23,5 +23,5 @@ loop-bucket-preserved c =
     let next = drop_read lists i c.bucket-item.result c.loop-bucket-test.true c.bucket-item.is in
     record {
       each = (each_split (drop i lists) (drop (i + 1) lists) c.bucket-item.result next c.loop-bucket.invariant.each).1;
-      sum = step_lists c.loop-bucket.sum.terms c.add_terms.new.sum.terms _ (drop i lists) (drop (i + 1) lists) c.bucket-item.result next c.loop-bucket.invariant.sum (c.in_ok-add_terms.ensures ∙ ap (plus text_cmp c.loop-bucket.sum.terms) c.as_slice.ensures);
+      sum = step_lists c.loop-bucket.sum.terms c.add_rows.new.sum.terms _ (drop i lists) (drop (i + 1) lists) c.bucket-item.result next c.loop-bucket.invariant.sum (c.in_ok-add_rows.ensures ∙ ap (plus text_cmp c.loop-bucket.sum.terms) c.parts.ensures);
     }

@@ -1,7 +1,7 @@
 use Rattle.std.proofs.Common.{◌+◌, ℕ, length, sym, ◌∙◌, ap, subst}
 use Rattle.std.proofs.lemmas.Result.{on_ok_weaker}
 use Rattle.rato_reduce.specs.private.Buckets.{joined, IsCounted}
-use Rattle.rato_reduce.proofs.BucketLemmas.{one_list_out, rest_length, rest_levelled}
+use Rattle.rato_reduce.proofs.BucketLemmas.{no_list_out, one_list_out, rest_length, rest_levelled}
 use Rattle.rato_reduce.proofs.buckets.take_last.Goals as goal
 
 pub returns-then-len-level-clause-levelled : goal.returns-then-len-level-clause-levelled
@@ -24,4 +24,7 @@ returns-else-len-level-clause-counted c counted =
 
 pub returns-else-len-level-clause-taken : goal.returns-else-len-level-clause-taken
 returns-else-len-level-clause-taken c =
-    on_ok_weaker c.take_out.result (λ made. one_list_out c.args.rank c.args.list.now.items c.pop_from.new.list.items c.in-Some.bucket c.take_out.new.part.items c.in-Some.ensures.some made) c.take_out.ensures
+    on_ok_weaker c.take_out.result (λ made. one_list_out c.args.rank c.args.list.now.items c.pop_from.new.list.items c.in-Some.bucket c.take_out.new.part c.in-Some.ensures.some made) c.take_out.ensures
+
+pub returns-in-None-clause-taken : goal.returns-in-None-clause-taken
+returns-in-None-clause-taken c = no_list_out c.args.rank c.args.list.now.items c.pop_from.new.list.items c.args.part.now c.in-None.ensures.none.0 c.requires

@@ -1,4 +1,4 @@
-use Rattle.std.proofs.Common.{◌≡◌, ℕ, List, [], ◌∷◌, map, length, get_or, refl, sym, ◌∙◌, ap, arith}
+use Rattle.std.proofs.Common.{◌≡◌, [], ◌∷◌, map, get_or, sym, ◌∙◌, ap, arith}
 use Rattle.std.proofs.lemmas.Result.{on_ok_weaker}
 use Rattle.net_core.specs.NetList.{nets}
 use Rattle.net_words.specs.Variables.{variables}
@@ -7,12 +7,8 @@ use Rattle.poly_mixed.specs.Sum.{plus}
 use Rattle.stage_model.specs.Variables.{rank_in}
 use Rattle.rato_reduce.specs.private.CutTerms.{all_products}
 use Rattle.rato_reduce.specs.Monomials.{monomials}
+use Rattle.rato_reduce.proofs.ShortListLemmas.{one_item, two_items}
 use Rattle.rato_reduce.proofs.eliminate.add_form.Goals as goal
-
-one_item : (xs : List ℕ) → length xs ≡ 1 → xs ≡ get_or xs 0 0 ∷ []
-one_item [] one = absurd (omega arith)
-one_item (x ∷ []) one = refl
-one_item (x ∷ y ∷ ys) one = absurd (omega arith)
 
 pub returns-then-inputs-eq1 : goal.returns-then-inputs-eq1
 returns-then-inputs-eq1 c =
@@ -22,12 +18,6 @@ returns-then-inputs-eq1 c =
     let rank : c.rank-rank.result ≡ rank_in order (get_or c.inputs-inputs.result.now 0 0) = c.rank-rank.ensures in
     let ranks : c.rank-rank.result ∷ [] ≡ map (rank_in order) c.args.gate.now.inputs = (λ i. rank i ∷ []) ∙ ap (map (rank_in order)) (sym one ∙ inputs) in
     on_ok_weaker c.add_all_lines.result (λ e. e ∙ ap (λ rs. plus text_cmp c.args.cut.now.terms (all_products c.args.part.now (monomials c.args.form [] rs 0 1))) ranks) c.add_all_lines.ensures
-
-two_items : (xs : List ℕ) → length xs ≡ 2 → xs ≡ get_or xs 0 0 ∷ get_or xs 1 0 ∷ []
-two_items [] two = absurd (omega arith)
-two_items (x ∷ []) two = absurd (omega arith)
-two_items (x ∷ y ∷ []) two = refl
-two_items (x ∷ y ∷ z ∷ zs) two = absurd (omega arith)
 
 pub returns-then-inputs-eq2 : goal.returns-then-inputs-eq2
 returns-then-inputs-eq2 c =

@@ -2,8 +2,7 @@ use Rattle.std.proofs.Common.{◌≡◌, ◌++◌, List, [], length, take, drop,
 use Rattle.poly_mixed.specs.Monomial.{text_cmp}
 use Rattle.poly_mixed.specs.Polynomial.{Terms}
 use Rattle.poly_mixed.specs.Sum.{plus}
-use Rattle.rato_reduce.specs.private.CutTerms.{CutPolynomial}
-use Rattle.rato_reduce.specs.private.Buckets.{joined, AreLevelled, IsCounted, IsMergedAt}
+use Rattle.rato_reduce.specs.private.Buckets.{joined, AreLevelled, IsCounted, IsMergedAt, ListedPolynomial}
 use Rattle.rato_reduce.proofs.AddedLemmas.{refilled}
 use Rattle.rato_reduce.proofs.BucketLemmas.{merged_count, merged_levelled, merged_long, merged_polynomial}
 use Rattle.rato_reduce.proofs.buckets.Buckets.merge_list.Goals as goal
@@ -31,4 +30,4 @@ pub returns : goal.returns
 returns c =
     ap (λ (ls : List Terms). plus text_cmp [] (joined ls)) (is c)
     ∙ merged_polynomial c.self.inside.places.items c.self.inside.list.items c.merge_at.new.list c.args.i c.self.inside.count c.in_ok-count.count c.self.invariant.0 (made c)
-    ∙ ap (λ (q : CutPolynomial). q.terms) c.self.view_is
+    ∙ ap (λ (q : ListedPolynomial). q.terms) c.self.view_is

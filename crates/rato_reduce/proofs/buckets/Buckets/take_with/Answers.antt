@@ -1,7 +1,6 @@
 use Rattle.std.proofs.Common.{◌≡◌, ◌≤◌, ℕ, length, ◌∙◌, ap, subst}
 use Rattle.poly_mixed.specs.Cofactor.{cofactors, lacking}
-use Rattle.rato_reduce.specs.private.CutTerms.{CutPolynomial}
-use Rattle.rato_reduce.specs.private.Buckets.{level_at, AreLevelled}
+use Rattle.rato_reduce.specs.private.Buckets.{level_at, AreLevelled, ListedPolynomial}
 use Rattle.rato_reduce.proofs.AddedLemmas.{ok_both}
 use Rattle.rato_reduce.proofs.BucketLemmas.{out_each, out_left, out_part}
 use Rattle.rato_reduce.proofs.buckets.Buckets.take_with.Goals as goal
@@ -18,8 +17,8 @@ returns-clause-left c =
     let P : ℕ → Type 0 = λ n. length c.take_last.new.list.items ≤ n in
     ok_both c.take_last.result
     (λ made long.
-    out_left c.self.inside.places.items c.args.rank c.self.inside.list.items c.take_last.new.list.items c.take_last.new.part.items c.self.invariant.0 (after c) (subst P (level c) long) made
-    ∙ ap (λ (q : CutPolynomial). lacking c.args.rank q.terms) c.self.view_is)
+    out_left c.self.inside.places.items c.args.rank c.self.inside.list.items c.take_last.new.list.items c.take_last.new.part c.self.invariant.0 (after c) (subst P (level c) long) made
+    ∙ ap (λ (q : ListedPolynomial). lacking c.args.rank q.terms) c.self.view_is)
     c.take_last.ensures.taken c.take_last.ensures.rest
 
 pub returns-clause-part : goal.returns-clause-part
@@ -27,13 +26,13 @@ returns-clause-part c =
     let P : ℕ → Type 0 = λ n. length c.take_last.new.list.items ≤ n in
     ok_both c.take_last.result
     (λ made long.
-    out_part c.self.inside.places.items c.args.rank c.self.inside.list.items c.take_last.new.list.items c.take_last.new.part.items c.self.invariant.0 (after c) (subst P (level c) long) made
-    ∙ ap (λ (q : CutPolynomial). cofactors c.args.rank q.terms) c.self.view_is)
+    out_part c.self.inside.places.items c.args.rank c.self.inside.list.items c.take_last.new.list.items c.take_last.new.part c.self.invariant.0 (after c) (subst P (level c) long) made
+    ∙ ap (λ (q : ListedPolynomial). cofactors c.args.rank q.terms) c.self.view_is)
     c.take_last.ensures.taken c.take_last.ensures.rest
 
 pub returns-clause-each : goal.returns-clause-each
 returns-clause-each c =
     let P : ℕ → Type 0 = λ n. length c.take_last.new.list.items ≤ n in
     ok_both c.take_last.result
-    (λ made long. out_each c.self.inside.places.items c.args.rank c.self.inside.list.items c.take_last.new.list.items c.take_last.new.part.items c.self.invariant.0 (after c) (subst P (level c) long) made)
+    (λ made long. out_each c.self.inside.places.items c.args.rank c.self.inside.list.items c.take_last.new.list.items c.take_last.new.part c.self.invariant.0 (after c) (subst P (level c) long) made)
     c.take_last.ensures.taken c.take_last.ensures.rest

@@ -1,0 +1,13 @@
+use Rattle.std.proofs.Common.{◌≡◌, drop}
+use Rattle.std.specs.List.{AllByRecursion}
+use Rattle.poly_mixed.specs.Monomial.{text_cmp}
+use Rattle.poly_mixed.specs.Sum.{plus}
+use Rattle.rato_reduce.specs.private.CutTerms.{IsBitTerm}
+use Rattle.rato_reduce.specs.private.Rows.{lines_of}
+use Rattle.rato_reduce.proofs.buckets.add_rows.Given as goal
+
+abbrev pub invariant-loop-row : goal.invariant-loop-row
+invariant-loop-row l = record {
+  each : AllByRecursion IsBitTerm (lines_of l.ranks (drop l.row-index l.rows));
+  sum : plus text_cmp l.sum.terms (lines_of l.ranks (drop l.row-index l.rows)) ≡ plus text_cmp l.initial.sum.terms (lines_of l.ranks l.rows);
+}

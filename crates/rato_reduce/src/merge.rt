@@ -1,0 +1,124 @@
+//! Equal terms of rows that are added up.
+ghost use Rattle.std.specs.Prelude.{◌≡◌, ◌<◌, length, IsTrue, IfSome, OnOk, OnErr};
+ghost use Rattle.rato_reduce.specs.private.Rows.{AddsAt, AreAddedUp, AreMerged, HaveSameBits};
+
+use crate::row::{Row, has_same_bits};
+use std::alloc::{AllocError, Global};
+
+// So many places of a table are looked at for a row.
+const LOOKS: usize = 16;
+
+// Whether the row at an index is seen to be of the bits of that at another.
+fn has_bits(ranks: &[u32], rows: &[Row], index: usize, i: usize) -> bool
+    requires { i < length rows.now }
+    ensures { IsTrue result → HaveSameBits ranks.now rows.now index i }
+{
+    match rows.get(index) {
+        Some(other) => has_same_bits(ranks, other, &rows[i]),
+        None => false,
+    }
+}
+
+// The first place of a table in which a row of this hash is looked for.
+fn first_look(table: &[usize], hash: u64) -> usize {
+    (hash >> 32) as usize % table.len().max(1)
+}
+
+// The index of a row with the bits of that at another index, if a few looks into the table find it. The table has at its
+// places 0, or the number of a row, counted from 1; which of them it has decides how many rows are found, and nothing else.
+fn find(ranks: &[u32], rows: &[Row], table: &[usize], i: usize, hash: u64) -> Option<usize>
+    requires { i < length rows.now }
+    ensures { IfSome result (λ index. HaveSameBits ranks.now rows.now index i) }
+{
+    let mut place = first_look(table, hash);
+    for _ in 0..LOOKS {
+        let number = match table.get(place) {
+            Some(number) => *number,
+            None => 0,
+        };
+        if number == 0 {
+            return None;
+        }
+        if has_bits(ranks, rows, number - 1, i) {
+            return Some(number - 1);
+        }
+        place = place.wrapping_add(1);
+    }
+    None
+}
+
+// Puts the number of a row into the table, if a few looks find an empty place.
+fn note(table: &mut [usize], hash: u64, number: usize) {
+    let mut place = first_look(table, hash);
+    for _ in 0..LOOKS {
+        match table.get_mut(place) {
+            Some(there) => {
+                if *there == 0 {
+                    *there = number;
+                    return;
+                }
+            }
+            None => return,
+        }
+        place = place.wrapping_add(1);
+    }
+}
+
+// Adds to the coefficient of the row at an index.
+fn add_at(rows: &mut [Row], i: usize, c: u64)
+    requires { i < length rows.old }
+    ensures { AddsAt rows.old rows.new i c }
+{
+    let row = rows[i];
+    rows[i] = Row {
+        start: row.start,
+        stop: row.stop,
+        hash: row.hash,
+        coefficient: row.coefficient ^ c,
+    };
+}
+
+// Adds the coefficient of a row to one with its bits, and leaves 0 there.
+fn move_to(_ranks: &[u32], rows: &mut [Row], to: usize, from: usize)
+    requires { HaveSameBits _ranks.now rows.old to from }
+    ensures same { AreAddedUp _ranks.now rows.old rows.new }
+    ensures long { length rows.new ≡ length rows.old }
+{
+    let c = rows[from].coefficient;
+    add_at(rows, from, c);
+    add_at(rows, to, c);
+}
+
+// Adds the row at an index to one with its bits, if that is found, and else notes it.
+fn add_one(ranks: &[u32], rows: &mut [Row], table: &mut [usize], i: usize)
+    requires { i < length rows.old }
+    ensures same { AreAddedUp ranks.now rows.old rows.new }
+    ensures long { length rows.new ≡ length rows.old }
+{
+    let hash = rows[i].hash;
+    match find(ranks, rows, table, i, hash) {
+        Some(index) => move_to(ranks, rows, index, i),
+        None => note(table, hash, i + 1),
+    }
+}
+
+// Adds up equal terms that a few looks into the table find, and leaves 0 in the place of all but one.
+fn add_up(ranks: &[u32], rows: &mut [Row], table: &mut [usize])
+    ensures same { AreAddedUp ranks.now rows.old rows.new }
+    ensures long { length rows.new ≡ length rows.old }
+{
+    for i in 0..rows.len() {
+        add_one(ranks, rows, table, i);
+    }
+}
+
+/// Adds up equal terms that a few looks find, and leaves out those whose coefficients come to 0.
+pub fn merge_rows(alloc: Global, ranks: &[u32], rows: &mut Vec<Row>) -> Result<(), AllocError>
+    ensures merged { OnOk result (AreMerged ranks.now rows.old.items rows.new.items) }
+    ensures kept { OnErr result (rows.new.items ≡ rows.old.items) }
+{
+    let mut table = vec![in alloc; 0; rows.len().saturating_mul(2)]?;
+    add_up(ranks, rows.as_mut_slice(), table.as_mut_slice());
+    rows.retain(|row| row.coefficient != 0);
+    Ok(())
+}
