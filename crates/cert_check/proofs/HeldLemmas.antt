@@ -1,7 +1,7 @@
 -- The polynomial that a running sum holds: its size and its values.
-use Rattle.std.proofs.Common.{◌≡◌, ◌∙◌, ap, sym, refl, subst, ℕ, zero, suc, ◌<◌, ◌≤◌, ◌+◌, ◌*◌, ◌^◌, ◌==◌, true, false, cond, List, [], ◌∷◌, length, bit_xor, Result, Ok, Err, OnOk, arith}
+use Rattle.std.proofs.Common.{◌≡◌, ◌∙◌, ap, sym, refl, subst, ℕ, zero, suc, ◌<◌, ◌≤◌, ◌+◌, ◌*◌, ◌^◌, ◌==◌, true, false, cond, List, [], ◌∷◌, length, bit_xor, Result, Ok, Err, OnOk, inl, arith}
 use Rattle.std.specs.Prelude.{Option, slice_index}
-use lib.Bits.{xor_assoc, xor_lt, xor_self, xor_zero_r}
+use lib.Bits.{xor_assoc, xor_lt, xor_zero_r}
 use Rattle.std.proofs.lemmas.Bool.{eqb-true, eqb-false}
 use Rattle.std.proofs.lemmas.Nat.{pow_below, pow_pos}
 use Rattle.std.specs.List.{list_all}
@@ -11,7 +11,7 @@ use Rattle.gf_field.specs.Polynomial.{sum_of_first}
 use Rattle.gf_field.specs.Power.{power}
 use Rattle.gf_field.specs.Ring.{IsRing}
 use Rattle.gf_field.specs.Trace.{frobenius}
-use Rattle.gf_field.specs.laws.RingLaws.{distrib_left, mul_zero, zero_mul}
+use Rattle.gf_field.specs.laws.RingLaws.{mul_zero, zero_mul}
 use Rattle.gf_field.specs.laws.TraceLaws.{frobenius-power}
 use Rattle.net_words.specs.Binding.{BoundNet}
 use Rattle.poly_mixed.specs.Monomial.{Monomial, text_cmp}
@@ -25,7 +25,7 @@ use Rattle.poly_mixed.proofs.ValueLemmas.{one_element, power_element, powers_ele
 use Rattle.cert_check.specs.declared.form.Form.{Form}
 use Rattle.cert_check.specs.declared.row.Row.{Row}
 use Rattle.cert_check.specs.declared.running_sum.RunningSum.{RunningSum}
-use Rattle.cert_check.specs.private.Held.{dual_of, power_of, square_of, square_term, row_term, with_term, with_first, with_rows, whole, IsRow, AreRows, row_value, rows_value, held_value, form_value, IsHeld, IsSplit}
+use Rattle.cert_check.specs.private.Held.{dual_of, power_of, square_of, square_term, row_term, with_term, with_first, with_rows, whole, IsRow, IsSettled, AreRows, row_value, rows_value, held_value, form_value, IsHeld, IsSplit}
 use Rattle.poly_mixed.proofs.SharedLemmas.{element_in, plus_term_few}
 
 -- ---- sizes
@@ -56,13 +56,17 @@ module _ (k : ℕ) (mul : ℕ → ℕ → ℕ) (dual : ℕ → ℕ → ℕ) wher
   pub whole_length : (sum : RunningSum) → length (whole k mul dual sum) ≤ length sum.poly.terms + length sum.rows.items * k
   whole_length sum = rows_length sum.rows.items sum.poly.terms
 
-  pub whole_within : (bound : ℕ) (sum : RunningSum) (terms rows : ℕ) → terms ≡ length sum.poly.terms → rows ≡ length sum.rows.items → terms + rows * k ≤ bound → length (whole k mul dual sum) ≤ bound
-  whole_within bound sum terms rows first second less =
+  pub whole_within : (bound : ℕ) (sum : RunningSum) (rows : ℕ) → rows ≡ length sum.rows.items → length sum.poly.terms + rows * k ≤ bound → length (whole k mul dual sum) ≤ bound
+  whole_within bound sum rows same less =
       let P : ℕ → Type 0 = λ n. length sum.poly.terms + n * k ≤ bound in
-      let Q : ℕ → Type 0 = λ n. n + rows * k ≤ bound in
-      let most : length sum.poly.terms + length sum.rows.items * k ≤ bound = subst P second (subst Q first less) in
+      let most : length sum.poly.terms + length sum.rows.items * k ≤ bound = subst P same less in
       let small = whole_length sum in
       omega (arith, most, small)
+
+  -- where all was added
+  pub flushed_settled : {X E : Type 0} (r : Result X E) (new : RunningSum) (bound : ℕ) → OnOk r (new.rows.items ≡ []) → OnOk r (new.poly.waiting ≡ 0) → OnOk r (IsSettled k bound new)
+  flushed_settled (Ok x) new bound rows waiting = inl (rows, waiting)
+  flushed_settled (Err e) new bound rows waiting = tt
 
 -- ---- values
 

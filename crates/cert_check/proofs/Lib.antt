@@ -22,3 +22,4 @@ pub mod KeptLemmas
 pub mod DeterminedLemmas
 pub mod PairsLemmas
 pub mod TurnLemmas
+pub mod WaitingLemmas

@@ -1,5 +1,5 @@
 -- Rows to which multiples of forms are added.
-use Rattle.std.proofs.Common.{◌≡◌, ◌∙◌, ap, sym, refl, subst, inl, inr, length, ℕ, zero, suc, ◌<◌, ◌≤◌, ◌+◌, List, [], ◌∷◌, ◌++◌, get_or, bit_xor, Some, Result, Ok, Err, OnOk, arith}
+use Rattle.std.proofs.Common.{◌≡◌, ◌∙◌, ap, sym, refl, subst, inl, inr, length, ℕ, zero, suc, ◌<◌, ◌≤◌, List, [], ◌∷◌, ◌++◌, get_or, bit_xor, Some, Result, Ok, Err, OnOk, arith}
 use Rattle.std.specs.Prelude.{slice_index, slice_get, slice_set, replicate}
 use Rattle.lists.specs.laws.XorLaws.{xor_cross, xor_turn}
 use lib.Bits.{xor_assoc, xor_zero_l, xor_zero_r, xor_lt}

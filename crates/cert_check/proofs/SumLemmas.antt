@@ -1,8 +1,6 @@
 -- Sums of basis elements, place by place, and tables over ranks.
-use Rattle.std.proofs.Common.{◌≡◌, ℕ, zero, suc, ◌<◌, ◌+◌, ◌*◌, Bool, cond, List, [], ◌∷◌, length, map, get_or, take, bit_xor, sym, ap, subst, ◌∙◌, arith, Some, Result, Ok, Err}
-use Rattle.std.specs.Prelude.{IfOk, Option, slice_get, slice_index}
+use Rattle.std.proofs.Common.{◌≡◌, ℕ, zero, suc, ◌<◌, Bool, cond, List, [], ◌∷◌, length, map, get_or, take, bit_xor, sym, ap, ◌∙◌, arith}
 use Rattle.lists.specs.laws.NumberLaws.{lowest_times, rest_of_choice}
-use Rattle.lists.specs.laws.ReadLaws.{get_below}
 use lib.Bits.{xor_zero_l, xor_zero_r, xor_assoc}
 use Rattle.irreducible.specs.Span.{combination}
 use Rattle.poly_mixed.specs.Table.{index, table_bit, table_value}

@@ -1,9 +1,8 @@
 -- Sums of monomials.
-use Rattle.std.proofs.Common.{◌≡◌, ◌≢◌, ◌∙◌, ap, sym, ℕ, ◌+◌, ◌<◌, List, [], ◌∷◌, ◌++◌, length, map, drop, get_or, drop_of_length-le, arith}
-use Rattle.std.proofs.lemmas.List.{drop_more, map-append}
+use Rattle.std.proofs.Common.{◌≡◌, ◌≢◌, ◌∙◌, ap, ℕ, ◌+◌, List, [], ◌∷◌, ◌++◌, drop, arith}
+use Rattle.std.proofs.lemmas.List.{map-append}
 use Rattle.std.specs.List.{AllByRecursion}
 use Rattle.poly_mixed.specs.Monomial.{Monomial}
-use Rattle.poly_mixed.specs.Polynomial.{Terms}
 use Rattle.cert_check.specs.private.Units.{units}
 
 pub nonzero : (ms : List Monomial) → AllByRecursion (λ t. t.1 ≢ 0) (units ms)

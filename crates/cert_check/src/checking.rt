@@ -1,23 +1,19 @@
-//! The verdict on a certificate.
+//! The verdict on the lines of a certificate after its claim.
 ghost use Rattle.std.specs.Prelude.{◌≡◌, ◌≤◌, ◌+◌, ℕ, length, IfOk, IfErr, IfSome, OnOk};
 ghost use Rattle.std.specs.Str.Lines.{lines};
-ghost use Rattle.outcome.specs.Outcome.{Fits};
 ghost use Rattle.circuit_model.specs.Bases.{AreBases};
-ghost use Rattle.cert_check.specs.Fault.{refusal};
 ghost use Rattle.cert_check.specs.Labels.{NameWords};
 ghost use Rattle.cert_check.specs.Certificate.{Certificate, begun};
-ghost use Rattle.cert_check.specs.Verdict.{IsRunningSum, Check, verdict_of};
+ghost use Rattle.cert_check.specs.Verdict.{IsRunningSum};
 ghost use Rattle.cert_check.specs.declared.line.Line.TheVariants.{Pair};
 ghost use Rattle.cert_check.specs.private.Reading.{AreDrivers, IsLine, IsMultiplier};
 ghost use Rattle.cert_check.specs.private.Held.{whole, IsHeld, IsLast, IsSettled};
 ghost use Rattle.cert_check.specs.private.Kept.{AsksLine, EndsWith, IsGeneratorOf, IsLineOf, IsOver, IsVerdictAfter, Keeps, KeepsLine, SaysLine};
 
-use crate::drivers::drivers;
 use crate::fault::{CertFault, LineFault, at_line};
-use crate::head::read_head;
 use crate::last::LastGenerator;
 use crate::line::{Line, Multiplier, read_line};
-use crate::running::{add_multiplier, first_sum};
+use crate::running::add_multiplier;
 use crate::running_sum::RunningSum;
 use crate::term_list::TermList;
 use crate::term_map::TermMap;
@@ -61,19 +57,7 @@ impl Drop for Checking {
     }
 }
 
-// Refuses a sum of more terms than the bound after the line of this number.
-fn check_size(sum: &TermMap, line: u32, bound: u32) -> Result<(), CertFault>
-    ensures within { OnOk result (length sum.now.terms ≤ bound) }
-    ensures over { IfErr result (IsOver line bound (length sum.now.terms)) }
-{
-    let terms = sum.len() as u64;
-    if terms > u64::from(bound) {
-        return Err(CertFault::TooManyTerms { line, terms });
-    }
-    Ok(())
-}
-
-// The same of a running sum that is settled.
+// Refuses a running sum that is settled and has more terms than the bound after the line of this number.
 fn check_sum(sum: &RunningSum, k: u32, line: u32, bound: u32) -> Result<(), CertFault>
     requires { IsSettled k bound sum.now }
     ensures within { (mul : ℕ → ℕ → ℕ) (dual : ℕ → ℕ → ℕ) → OnOk result (length (whole k mul dual sum.now) ≤ bound) }
@@ -232,8 +216,8 @@ fn line_said<F: Field>(
     read_line(alloc, k, net, drivers, labels, version, count, line)
 }
 
-// The verdict of the lines after the claim.
-fn verdict_from<F: Field>(
+/// The verdict of the lines after the claim.
+pub(crate) fn verdict_from<F: Field>(
     alloc: Global,
     field: &F,
     circuit: &Combinational,
@@ -284,86 +268,4 @@ fn verdict_from<F: Field>(
         number += 1;
     }
     Err(CertFault::NoEnd)
-}
-
-// The verdict on a text, where these gates drive the nets.
-fn verdict_on<F: Field>(
-    alloc: Global,
-    field: &F,
-    circuit: &Combinational,
-    bases: &[Basis],
-    drivers: &[Option<u32>],
-    labels: &Labels,
-    bytes: &[u8],
-    bound: u32,
-) -> Result<CertVerdict, CertFault>
-    requires k { circuit.now.binding.k ≡ F.degree field.now }
-    requires bases { AreBases (F.degree field.now) (F.product field.now) circuit.now bases.now }
-    requires labels { NameWords circuit.now.binding labels.now }
-    requires few { length labels.now.words ≤ 8 }
-    requires drivers { AreDrivers circuit.now.net drivers.now }
-    requires size { length bytes.now ≤ 67108864 }
-    ensures { Fits refusal verdict_of result (Check (F.degree field.now) (F.product field.now) circuit.now bases.now labels.now bound bytes.now) }
-{
-    let k = field.k();
-    let head = match read_head(alloc, k, labels, bytes) {
-        Ok(head) => head,
-        Err(fault) => return Err(fault),
-    };
-    let sum = first_sum(alloc, field, circuit, bases, &head.claim)?;
-    match check_size(&sum, 2, bound) {
-        Ok(()) => verdict_from(
-            alloc,
-            field,
-            circuit,
-            bases,
-            drivers,
-            labels,
-            bound,
-            head.version,
-            head.claim,
-            sum,
-            head.rest,
-        ),
-        Err(fault) => Err(fault),
-    }
-}
-
-/// The verdict on a certificate in version 1 or 2, or the fault of the first line that shows one; at one line the text
-/// comes before the size.
-///
-/// The running sum begins as the sum of the output word, that is of its basis elements each times its bit, and the claim;
-/// each pair adds the product of its generator and its multiplier, as the reduced polynomial in which all variables are
-/// free. `TooManyTerms` comes where the sum after a line has more than `bound` terms; the claim's line is such a line
-/// too. Each word has k bits, there is one basis of this field for each word of the binding, the labels name the input,
-/// state and fed words of the circuit, and the text has at most 67,108,864 bytes.
-pub fn check<F: Field>(
-    alloc: Global,
-    field: &F,
-    circuit: &Combinational,
-    bases: &[Basis],
-    labels: &Labels,
-    bytes: &[u8],
-    bound: u32,
-) -> Result<CertVerdict, CertFault>
-    requires k { circuit.now.binding.k ≡ F.degree field.now }
-    requires bases { AreBases (F.degree field.now) (F.product field.now) circuit.now bases.now }
-    requires labels { NameWords circuit.now.binding labels.now }
-    requires size { length bytes.now ≤ 67108864 }
-    ensures { Fits refusal verdict_of result (Check (F.degree field.now) (F.product field.now) circuit.now bases.now labels.now bound bytes.now) }
-{
-    let drivers = drivers(alloc, circuit)?;
-    match verdict_on(
-        alloc,
-        field,
-        circuit,
-        bases,
-        drivers.as_slice(),
-        labels,
-        bytes,
-        bound,
-    ) {
-        Ok(verdict) => Ok(verdict),
-        Err(fault) => Err(fault),
-    }
 }

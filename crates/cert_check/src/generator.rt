@@ -20,6 +20,7 @@ use gf_field::Field;
 use net_core::{Gate, Net};
 use net_words::Combinational;
 use poly_mixed::{Generator, Mono};
+use smallvec::SmallVec;
 use std::alloc::{AllocError, Global};
 
 /// The place of a net among the variables.
@@ -31,12 +32,16 @@ pub(crate) fn rank(circuit: &Combinational, net: u32) -> u32
 }
 
 // The ranks of a gate's inputs.
-fn input_ranks(alloc: Global, circuit: &Combinational, gate: &Gate) -> Result<Vec<u32>, AllocError>
+fn input_ranks(
+    alloc: Global,
+    circuit: &Combinational,
+    gate: &Gate,
+) -> Result<SmallVec<u32, 6>, AllocError>
     requires sound { IsSound circuit.now.net }
     requires gate { Has circuit.now.net.gates gate.now }
     ensures { IfOk result (λ list. list.items ≡ map (rank_among (ranked circuit.now)) gate.now.inputs) }
 {
-    let mut list = Vec::with_capacity(alloc, gate.inputs().len())?;
+    let mut list = SmallVec::new(alloc);
     for input in gate.inputs() {
         list.push(rank(circuit, *input))?;
     }
@@ -58,7 +63,7 @@ fn add_gate<F: Field>(
     ensures values { OnOk result (AddsValue (F.degree field.now) (F.product field.now) (gate_value circuit.now gate.now) sum.old.terms sum.new.terms) }
 {
     let ranks = input_ranks(alloc, circuit, gate)?;
-    add_table(alloc, field, &ranks, gate.table(), sum)?;
+    add_table(alloc, field, ranks.as_slice(), gate.table(), sum)?;
     Ok(())
 }
 

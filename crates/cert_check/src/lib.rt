@@ -23,12 +23,17 @@ mod running_sum;
 mod scan;
 mod squares;
 mod subsets;
+mod summand;
 mod term_list;
 mod term_map;
+mod term_sum;
+mod text_verdict;
+mod waiting;
 mod words;
 
 pub use cert_pairs::CertPairs;
-pub use checking::{CertVerdict, check};
+pub use checking::CertVerdict;
 pub use fault::{CertFault, LineFault};
 pub use laws::{one_certificate_or_fault, one_verdict_or_fault, valid_claims_are_outputs};
 pub use reading::pairs;
+pub use text_verdict::check;

@@ -5,7 +5,7 @@ ghost use Rattle.poly_mixed.specs.Product.{AddsProduct};
 ghost use Rattle.cert_check.specs.private.Units.{units, AddsProducts, AreTerms};
 
 use crate::monomial::product;
-use crate::term_map::TermMap;
+use crate::term_sum::TermSum;
 use gf_field::Field;
 use poly_mixed::{Mono, Term};
 use std::alloc::{AllocError, Global};
@@ -27,7 +27,7 @@ fn add_multiple<F: Field>(
     field: &F,
     by: &Term,
     monos: &[Mono],
-    sum: &mut TermMap,
+    sum: &mut TermSum,
 ) -> Result<(), AllocError>
     requires by { IsTerm (F.degree field.now) by.now × (by.now.1 ≢ 0) }
     requires monos { AreTerms (F.degree field.now) (units monos.now) }
@@ -37,9 +37,8 @@ fn add_multiple<F: Field>(
 {
     let k = field.k();
     let c = by.coefficient();
-    let mut bits = Vec::new(alloc);
     for other in monos {
-        let mono = product(alloc, k, by.mono(), other, &mut bits)?;
+        let mono = product(alloc, k, by.mono(), other)?;
         sum.add_term(mono, c)?;
     }
     Ok(())
@@ -51,7 +50,7 @@ pub(crate) fn add_products<F: Field>(
     field: &F,
     left: &[Term],
     right: &[Mono],
-    sum: &mut TermMap,
+    sum: &mut TermSum,
 ) -> Result<(), AllocError>
     requires left { IsReduced (F.degree field.now) left.now }
     requires right { AreTerms (F.degree field.now) (units right.now) }

@@ -4,7 +4,7 @@ ghost use Rattle.poly_mixed.specs.Polynomial.{IsElement};
 ghost use Rattle.cert_check.specs.private.Held.{power_of, square_term, with_term, GrowsBy, IsRow};
 
 use crate::monomial::product;
-use crate::term_map::TermMap;
+use crate::term_sum::TermSum;
 use gf_basis::Basis;
 use gf_field::Field;
 use net_words::Combinational;
@@ -86,8 +86,7 @@ impl Row {
         _bases: &[Basis],
         j: u32,
         c: u64,
-        bits: &mut Vec<u32>,
-        poly: &mut TermMap,
+        poly: &mut TermSum,
     ) -> Result<(), AllocError>
         requires row { IsRow _circuit.now _bases.now (F.degree field.now) self.now }
         requires j { j < F.degree field.now }
@@ -95,7 +94,7 @@ impl Row {
     {
         if c != 0 {
             let power = self.power(alloc, 1 << j)?;
-            let mono = product(alloc, field.k(), &self.mono, &power, bits)?;
+            let mono = product(alloc, field.k(), &self.mono, &power)?;
             poly.add_term(mono, c)?;
         }
         Ok(())

@@ -3,6 +3,7 @@
 ghost use Rattle.std.specs.Prelude.{◌≡◌, ◌↔◌, ◌+◌, ◌*◌, ◌<◌, ◌≤◌, ℕ, [], length, IfNone, IfOk, IfSome, IsTrue, OnOk};
 ghost use Rattle.poly_mixed.specs.Polynomial.{IsReduced, IsTerm};
 ghost use Rattle.cert_check.specs.private.Units.{units, AreTerms};
+ghost use Rattle.cert_check.specs.private.Waiting.{most_of};
 ghost use Rattle.circuit_model.specs.Bases.{AreBases};
 ghost use Rattle.cert_check.specs.private.Held.{dual_of, whole, AddsSplit, AreRows, HoldsTheSame, IsForm, IsFormOrNone, IsHeld, IsRow, IsRowAt, IsRowOf, IsSettled, KeepsTerm, KeepsTerms};
 
@@ -11,6 +12,7 @@ use crate::multiple::add_products;
 use crate::row::Row;
 use crate::squares::add_rows;
 use crate::term_map::TermMap;
+use crate::term_sum::TermSum;
 use gf_basis::Basis;
 use gf_field::Field;
 use net_words::Combinational;
@@ -21,7 +23,7 @@ use std::collections::BTreeMap;
 /// A polynomial, and rows that are not yet added to it. Where `places` has no place of a monomial's row, or another, only
 /// time is lost.
 pub(crate) struct RunningSum {
-    poly: TermMap,
+    poly: TermSum,
     rows: Vec<Row>,
     places: BTreeMap<Mono, usize>,
 }
@@ -36,13 +38,14 @@ impl Drop for RunningSum {
     }
 }
 
-// Whether so many terms and rows of k coefficients are within the bound.
-fn is_within(terms: usize, rows: usize, k: u32, bound: u32) -> bool
-    ensures { IsTrue result ↔ (terms + rows * k ≤ bound) }
+// Whether it is seen at once that the terms of a polynomial and rows of k coefficients are within the bound.
+fn is_within(poly: &TermSum, rows: usize, k: u32, bound: u32) -> bool
+    ensures seen { IsTrue result ↔ (most_of poly.now + rows * k ≤ bound) }
+    ensures within { IsTrue result → length poly.now.terms + rows * k ≤ bound }
 {
     let bound = bound as usize;
     match rows.checked_mul(k as usize) {
-        Some(more) => more <= bound && terms <= bound - more,
+        Some(more) => more <= bound && poly.has_at_most(bound - more),
         None => false,
     }
 }
@@ -93,7 +96,7 @@ impl RunningSum {
         ensures held { (bound : _) (bases : _) (k : ℕ) → IsReduced k poly.terms → IsHeld bound bases k result }
     {
         RunningSum {
-            poly,
+            poly: TermSum::of(alloc, poly),
             rows: Vec::new(alloc),
             places: BTreeMap::new(alloc),
         }
@@ -218,7 +221,7 @@ impl RunningSum {
         }
     }
 
-    /// Adds the rows to the polynomial.
+    /// Adds the rows to the polynomial, and the terms that wait to its map.
     pub(crate) fn flush<F: Field>(
         &mut self,
         alloc: Global,
@@ -229,6 +232,7 @@ impl RunningSum {
         requires bases { AreBases (F.degree field.now) (F.product field.now) circuit.now bases.now }
         requires held { IsHeld circuit.now bases.now (F.degree field.now) self.old }
         ensures rows { OnOk result (self.new.rows.items ≡ []) }
+        ensures none { OnOk result (self.new.poly.waiting ≡ 0) }
         ensures poly { OnOk result (self.new.poly.terms ≡ whole (F.degree field.now) (F.product field.now) (dual_of circuit.now bases.now) self.old) }
     {
         add_rows(
@@ -241,6 +245,7 @@ impl RunningSum {
         )?;
         self.rows.clear();
         self.places = BTreeMap::new(alloc);
+        self.poly.gather()?;
         Ok(())
     }
 
@@ -259,7 +264,7 @@ impl RunningSum {
         ensures held { OnOk result (IsHeld circuit.now bases.now (F.degree field.now) self.new) }
         ensures settled { OnOk result (IsSettled (F.degree field.now) bound self.new) }
     {
-        if is_within(self.poly.len(), self.rows.len(), field.k(), bound) {
+        if is_within(&self.poly, self.rows.len(), field.k(), bound) {
             return Ok(());
         }
         self.flush(alloc, field, circuit, bases)
@@ -271,15 +276,16 @@ impl RunningSum {
         ensures within { (mul : ℕ → ℕ → ℕ) (dual : ℕ → ℕ → ℕ) → IfNone result (length (whole k mul dual self.now) ≤ bound) }
         ensures over { (mul : ℕ → ℕ → ℕ) (dual : ℕ → ℕ → ℕ) → IfSome result (λ n. (n ≡ length (whole k mul dual self.now)) × (bound < n)) }
     {
-        if is_within(self.poly.len(), self.rows.len(), k, bound) {
+        if is_within(&self.poly, self.rows.len(), k, bound) {
             return None;
         }
         Some(self.poly.len())
     }
 
-    /// The size, where there are no rows.
+    /// The size, where there are no rows and no terms wait.
     pub(crate) fn len(&self) -> usize
-        requires { self.now.rows.items ≡ [] }
+        requires rows { self.now.rows.items ≡ [] }
+        requires none { self.now.poly.waiting ≡ 0 }
         ensures { (k : ℕ) (mul : ℕ → ℕ → ℕ) (dual : ℕ → ℕ → ℕ) → result ≡ length (whole k mul dual self.now) }
     {
         self.poly.len()

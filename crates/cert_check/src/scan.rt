@@ -3,7 +3,7 @@ ghost use Rattle.std.specs.Prelude.{◌≡◌};
 ghost use Rattle.cert_check.specs.Scan.{is_blank as is_blank_text, after_word as after_this_word, after_first as after_this_byte, after_sign as after_this_sign, digits_first as digits_in_front, digits_in, digits_at as digits_of, indexed_in, indexed_at as indexed_of};
 ghost use Rattle.cert_check.specs.private.Scanning.{left_of, two_of, three_of};
 
-use text_core::{Class, after, begins_hex, front, front_index, front_name, skip_blanks};
+use text_core::{Class, begins_hex, front, front_index, front_name, skip_blanks};
 
 /// Whether nothing but spaces and tabs is left.
 pub(crate) fn is_blank(bytes: &[u8]) -> bool
@@ -17,8 +17,9 @@ pub(crate) fn after_word<'a>(bytes: &'a [u8], word: &[u8]) -> Option<&'a [u8]>
     ensures { left_of result ≡ after_this_word word.now bytes.now }
 {
     let bytes = skip_blanks(bytes);
-    if front(bytes, Class::NameByte) == word {
-        Some(after(bytes, Class::NameByte))
+    let found = front(bytes, Class::NameByte);
+    if found == word {
+        Some(&bytes[found.len()..])
     } else {
         None
     }
@@ -49,7 +50,7 @@ pub(crate) fn digits_first(bytes: &[u8]) -> Option<(&[u8], &[u8])>
     if digits.is_empty() {
         None
     } else {
-        Some((digits, after(bytes, Class::Digit)))
+        Some((digits, &bytes[digits.len()..]))
     }
 }
 

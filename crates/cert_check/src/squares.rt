@@ -9,7 +9,7 @@ ghost use Rattle.cert_check.specs.private.Squares.{conjugates, AreMultiples, Are
 
 use crate::multiple::product_by;
 use crate::row::Row;
-use crate::term_map::TermMap;
+use crate::term_sum::TermSum;
 use crate::words::input_basis;
 use gf_basis::Basis;
 use gf_field::Field;
@@ -139,17 +139,16 @@ fn add_squares<F: Field>(
     bases: &[Basis],
     row: &Row,
     list: &[u64],
-    poly: &mut TermMap,
+    poly: &mut TermSum,
 ) -> Result<(), AllocError>
     requires row { IsRow circuit.now bases.now (F.degree field.now) row.now }
     requires long { length list.now ≡ F.degree field.now }
     requires squares { AreSquaresOf (F.degree field.now) (F.product field.now) (dual_of circuit.now bases.now) row.now list.now }
     ensures { OnOk result (poly.new.terms ≡ with_first (F.degree field.now) (F.product field.now) (dual_of circuit.now bases.now) row.now (F.degree field.now) poly.old.terms) }
 {
-    let mut bits = Vec::new(alloc);
     for j in 0..field.k() {
         let c = list[j as usize];
-        row.add_square(alloc, field, circuit, bases, j, c, &mut bits, poly)?;
+        row.add_square(alloc, field, circuit, bases, j, c, poly)?;
     }
     Ok(())
 }
@@ -161,7 +160,7 @@ fn add_row<F: Field>(
     circuit: &Combinational,
     bases: &[Basis],
     row: &Row,
-    poly: &mut TermMap,
+    poly: &mut TermSum,
 ) -> Result<(), AllocError>
     requires bases { AreBases (F.degree field.now) (F.product field.now) circuit.now bases.now }
     requires row { IsRow circuit.now bases.now (F.degree field.now) row.now }
@@ -171,10 +170,7 @@ fn add_row<F: Field>(
     let basis = input_basis(circuit.binding(), bases, row.word);
     let coefficients = row.coefficients.as_slice();
     match factor(field, basis, coefficients) {
-        Some(c) => {
-            let mut bits = Vec::new(alloc);
-            row.add_square(alloc, field, circuit, bases, 0, c, &mut bits, poly)
-        }
+        Some(c) => row.add_square(alloc, field, circuit, bases, 0, c, poly),
         None => {
             let list = squares(alloc, field, basis, coefficients)?;
             add_squares(alloc, field, circuit, bases, row, &list, poly)
@@ -189,7 +185,7 @@ pub(crate) fn add_rows<F: Field>(
     circuit: &Combinational,
     bases: &[Basis],
     rows: &[Row],
-    poly: &mut TermMap,
+    poly: &mut TermSum,
 ) -> Result<(), AllocError>
     requires bases { AreBases (F.degree field.now) (F.product field.now) circuit.now bases.now }
     requires rows { AreRows circuit.now bases.now (F.degree field.now) rows.now }

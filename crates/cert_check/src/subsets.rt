@@ -10,6 +10,7 @@ use crate::mono_sum::MonoSum;
 use crate::monomial::add_rank;
 use gf_field::Field;
 use poly_mixed::{Mono, exclusive_form};
+use smallvec::SmallVec;
 use std::alloc::{AllocError, Global};
 
 // Whether the form of a table has a place.
@@ -44,11 +45,10 @@ fn add_set<F: Field>(
 }
 
 // These ranks, which are rising, and one more.
-fn with(alloc: Global, set: &[u32], rank: u32) -> Result<Vec<u32>, AllocError>
+fn with(alloc: Global, set: &[u32], rank: u32) -> Result<SmallVec<u32, 6>, AllocError>
     ensures { IfOk result (λ v. v.items ≡ with_rank set.now rank) }
 {
-    let mut more = Vec::with_capacity(alloc, set.len())?;
-    more.extend_from_slice(set)?;
+    let mut more = SmallVec::from_slice(alloc, set)?;
     add_rank(&mut more, rank)?;
     Ok(more)
 }
@@ -78,7 +78,16 @@ fn add_sets<F: Field>(
     let rest = &ranks[1..];
     let more = with(alloc, set, ranks[0])?;
     add_sets(alloc, field, form, rest, base, 2 * step, set, sum)?;
-    add_sets(alloc, field, form, rest, base + step, 2 * step, &more, sum)?;
+    add_sets(
+        alloc,
+        field,
+        form,
+        rest,
+        base + step,
+        2 * step,
+        more.as_slice(),
+        sum,
+    )?;
     Ok(())
 }
 

@@ -1,12 +1,14 @@
 //! Polynomials to which terms are only added: maps from monomials to coefficients, without slots and lists.
-ghost use Rattle.std.specs.Prelude.{◌≡◌, ◌≢◌, [], length, IfOk, OnOk};
+ghost use Rattle.std.specs.Prelude.{◌≡◌, ◌≢◌, ◌∷◌, [], length, IfOk, OnOk};
 ghost use Rattle.std.specs.List.{AllByRecursion};
 ghost use Rattle.std.specs.List.Sorted.{IsStrictlySortedBy};
 ghost use Rattle.std.specs.Ordering.{nat_cmp};
 ghost use Rattle.poly_mixed.specs.Monomial.{text_cmp};
 ghost use Rattle.poly_mixed.specs.Polynomial.{IsMap};
 ghost use Rattle.poly_mixed.specs.Sum.{plus, plus_term};
+ghost use Rattle.cert_check.specs.private.Waiting.{nonzero_of};
 
+use crate::summand::Summand;
 use poly_mixed::{Mono, Poly, Term};
 use std::alloc::{AllocError, Global};
 use std::collections::BTreeMap;
@@ -78,7 +80,8 @@ impl TermMap {
 
     /// How many terms it has.
     pub(crate) fn len(&self) -> usize
-        ensures { result ≡ length self.now.terms }
+        ensures size { result ≡ length self.now.terms }
+        ensures is_map { IsMap self.now.terms }
     {
         self.map.len()
     }
@@ -107,6 +110,32 @@ impl TermMap {
             let mono = term.mono();
             let copied = Mono::new(alloc, mono.bits(), mono.exponents())?;
             self.add_term(copied, term.coefficient())?;
+        }
+        Ok(())
+    }
+
+    // Adds a term, unless its coefficient is 0.
+    fn add_summand(&mut self, alloc: Global, summand: &Summand) -> Result<(), AllocError>
+        ensures { OnOk result (self.new.terms ≡ plus text_cmp self.old.terms (nonzero_of (summand.now ∷ []))) }
+    {
+        let c = summand.coefficient();
+        if c == 0 {
+            return Ok(());
+        }
+        let copied = summand.copied(alloc)?;
+        self.add_term(copied, c)
+    }
+
+    /// Adds terms, but for those whose coefficient is 0.
+    pub(crate) fn add_summands(
+        &mut self,
+        alloc: Global,
+        summands: &[Summand],
+    ) -> Result<(), AllocError>
+        ensures { OnOk result (self.new.terms ≡ plus text_cmp self.old.terms (nonzero_of summands.now)) }
+    {
+        for summand in summands {
+            self.add_summand(alloc, summand)?;
         }
         Ok(())
     }

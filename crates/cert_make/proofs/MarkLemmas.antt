@@ -8,6 +8,7 @@ use Rattle.std.proofs.lemmas.Slice.Eq.{bytes_eq-Decides}
 use Rattle.lists.specs.laws.BoolLaws.{both_ways}
 use Rattle.lists.specs.laws.OrderingLaws.{is_equal, both_equal}
 use Rattle.cert_make.specs.declared.marks.Mark.{Mark}
+use Rattle.cert_make.specs.declared.marks.Mark.TheVariants.{Often}
 use Rattle.cert_make.specs.private.TextSharing.{bytes_cmp, bytes_cmp_total, seen_again}
 use Rattle.cert_make.proofs.SameLemmas.{number_same}
 
@@ -30,11 +31,20 @@ key_at t q =
 pub updated : (t q : List ℕ) (w old new : Option Mark) → new ≡ cond (is_at (bytes_cmp t) q) w old → new ≡ cond (bytes_eq q t) w old
 updated t q w old new is = is ∙ ap (λ b. cond b w old) (key_at t q)
 
+-- a text that was seen often stays so
+pub often_stays : (t q : List ℕ) (old : List ℕ → Option Mark) (known : Option Mark) → known ≡ old t → known ≡ Some Often → old q ≡ cond (bytes_eq q t) (Some (seen_again (old q))) (old q)
+often_stays t q old known at often =
+    (elim (bytes_eq q t) as (λ b. bytes_eq q t ≡ b → old q ≡ cond b (Some (seen_again (old q))) (old q)) [
+      | true ↦ λ e. let is : old q ≡ Some Often = ap old ((bytes_eq-Decides q t).0 e) ∙ (sym at ∙ often) in is ∙ sym (ap (λ (o : Option Mark). Some (seen_again o)) is)
+      | false ↦ λ e. refl
+    ]) refl
+
 -- a text that is seen once more
-pub seen_more : (t q : List ℕ) (old : List ℕ → Option Mark) (new known : Option Mark) (m : Mark) → known ≡ old t → m ≡ seen_again known → new ≡ cond (is_at (bytes_cmp t) q) (Some m) (old q) → new ≡ cond (bytes_eq q t) (Some (seen_again (old q))) (old q)
-seen_more t q old new known m at is by =
-    updated t q (Some m) (old q) new by
+pub seen_more : (u t q : List ℕ) (old : List ℕ → Option Mark) (new known : Option Mark) (m : Mark) → u ≡ t → known ≡ old t → m ≡ seen_again known → new ≡ cond (bytes_eq q u) (Some m) (old q) → new ≡ cond (bytes_eq q t) (Some (seen_again (old q))) (old q)
+seen_more u t q old new known m same at is by =
+    by
+    ∙ (ap (λ (x : List ℕ). cond (bytes_eq q x) (Some m) (old q)) same
     ∙ (elim (bytes_eq q t) as (λ b. bytes_eq q t ≡ b → cond b (Some m) (old q) ≡ cond b (Some (seen_again (old q))) (old q)) [
       | true ↦ λ e. ap (λ (o : Mark). Some o) (is ∙ ap seen_again (at ∙ ap old (sym ((bytes_eq-Decides q t).0 e))))
       | false ↦ λ e. refl
-    ]) refl
+    ]) refl)

@@ -68,7 +68,8 @@ fn is_one(mono: &Mono) -> bool
 fn constant_text(alloc: Global, c: u64) -> Result<Vec<u8>, AllocError>
     ensures { IfOk result (λ v. v.items ≡ hex_text c) }
 {
-    let mut text = Vec::new(alloc);
+    // room for `0x` and 16 digits
+    let mut text = Vec::with_capacity(alloc, 18)?;
     push_hex(&mut text, u128::from(c))?;
     Ok(text)
 }

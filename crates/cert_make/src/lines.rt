@@ -1,10 +1,12 @@
 //! The lines of a certificate.
-ghost use Rattle.std.specs.Prelude.{◌≡◌, ◌<◌, ◌++◌, ◌∷◌, [], codes, decimal, IfOk, OnOk, string_bytes};
+ghost use Rattle.std.specs.Prelude.{◌≡◌, ◌<◌, ◌++◌, ◌∷◌, [], codes, decimal, OnOk};
 ghost use Rattle.poly_mixed.specs.Labels.{bit_text};
 ghost use Rattle.poly_mixed.specs.Text.{HasNames, HasWordNames};
 ghost use Rattle.cert_make.specs.CertText.{claim_line, let_of, line_of, text_of_lines, generator_text as text_of_generator};
 ghost use Rattle.cert_make.specs.Writable.{HasName};
+ghost use Rattle.cert_make.specs.private.TextSharing.{named_by};
 
+use itoa::Buffer;
 use poly_mixed::{Generator, Labels, Poly, write_poly};
 use std::alloc::{AllocError, Global};
 
@@ -28,43 +30,74 @@ pub(crate) fn add_claim(
     Ok(())
 }
 
-// `bit W[i]`
-fn bit_line(alloc: Global, name: &str, place: u32) -> Result<String, AllocError>
-    ensures { IfOk result (λ s. string_bytes s ≡ codes "bit " ++ bit_text name.now place) }
+// `net n`
+fn add_net(out: &mut Vec<u8>, n: u32) -> Result<(), AllocError>
+    ensures { OnOk result (out.new.items ≡ out.old.items ++ (codes "net " ++ decimal n)) }
 {
-    format!(in alloc; "bit {}[{}]", name, place)
+    let mut buffer = Buffer::new();
+    out.extend_from_slice(b"net ")?;
+    out.extend_from_slice(buffer.format(n).as_bytes())?;
+    Ok(())
+}
+
+// `bit W[i]`
+fn add_bit(out: &mut Vec<u8>, name: &str, place: u32) -> Result<(), AllocError>
+    ensures { OnOk result (out.new.items ≡ out.old.items ++ (codes "bit " ++ bit_text name.now place)) }
+{
+    let mut buffer = Buffer::new();
+    out.extend_from_slice(b"bit ")?;
+    out.extend_from_slice(name.as_bytes())?;
+    out.push(b'[')?;
+    out.extend_from_slice(buffer.format(place).as_bytes())?;
+    out.push(b']')?;
+    Ok(())
 }
 
 // `net n` or `bit W[i]`
-fn generator_text(
-    alloc: Global,
-    generator: Generator,
-    labels: &Labels,
-) -> Result<String, AllocError>
+fn add_generator(out: &mut Vec<u8>, generator: Generator, labels: &Labels) -> Result<(), AllocError>
     requires { HasName labels.now generator }
-    ensures { IfOk result (λ s. string_bytes s ≡ text_of_generator labels.now generator) }
+    ensures { OnOk result (out.new.items ≡ out.old.items ++ text_of_generator labels.now generator) }
 {
     match generator {
-        Generator::Net(n) => format!(in alloc; "net {}", n),
-        Generator::Bit { word, place } => bit_line(alloc, labels.name(word), place),
+        Generator::Net(n) => add_net(out, n),
+        Generator::Bit { word, place } => add_bit(out, labels.name(word), place),
     }
 }
 
-// The line of a pair whose multiplier is written so.
+// `#n`
+fn add_number(out: &mut Vec<u8>, n: u64) -> Result<(), AllocError>
+    ensures { OnOk result (out.new.items ≡ out.old.items ++ (codes "#" ++ decimal n)) }
+{
+    let mut buffer = Buffer::new();
+    out.push(b'#')?;
+    out.extend_from_slice(buffer.format(n).as_bytes())?;
+    Ok(())
+}
+
+// A multiplier by its number, or by its text where it has none.
+fn add_multiplier(out: &mut Vec<u8>, number: Option<u64>, text: &[u8]) -> Result<(), AllocError>
+    ensures { OnOk result (out.new.items ≡ out.old.items ++ named_by number text.now) }
+{
+    match number {
+        Some(n) => add_number(out, n),
+        None => out.extend_from_slice(text),
+    }
+}
+
+// The line of a pair, with the number of its multiplier where it has one, and else with the text.
 pub(crate) fn add_pair(
-    alloc: Global,
     out: &mut Vec<u8>,
     generator: Generator,
     labels: &Labels,
-    multiplier: &[u8],
+    number: Option<u64>,
+    text: &[u8],
 ) -> Result<(), AllocError>
     requires { HasName labels.now generator }
-    ensures { OnOk result (out.new.items ≡ out.old.items ++ text_of_lines (line_of (text_of_generator labels.now generator) multiplier.now ∷ [])) }
+    ensures { OnOk result (out.new.items ≡ out.old.items ++ text_of_lines (line_of (text_of_generator labels.now generator) (named_by number text.now) ∷ [])) }
 {
-    let front = generator_text(alloc, generator, labels)?;
-    out.extend_from_slice(front.as_bytes())?;
+    add_generator(out, generator, labels)?;
     out.extend_from_slice(b" : ")?;
-    out.extend_from_slice(multiplier)?;
+    add_multiplier(out, number, text)?;
     out.push(b'\n')?;
     Ok(())
 }
@@ -84,14 +117,6 @@ pub(crate) fn add_let(
     out.extend_from_slice(multiplier)?;
     out.push(b'\n')?;
     Ok(())
-}
-
-// `#` and a number.
-pub(crate) fn number_text(alloc: Global, number: u64) -> Result<Vec<u8>, AllocError>
-    ensures { IfOk result (λ v. v.items ≡ codes "#" ++ decimal number) }
-{
-    let text = format!(in alloc; "#{}", number)?;
-    Vec::from_slice(alloc, text.as_bytes())
 }
 
 // The last line.

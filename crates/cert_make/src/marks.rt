@@ -1,8 +1,8 @@
 //! For each text of a multiplier how often it was seen, or its number where it is shared.
-ghost use Rattle.std.specs.Prelude.{◌≡◌, ℕ, List, cond, None, Some, OnOk};
+ghost use Rattle.std.specs.Prelude.{◌≡◌, ℕ, List, cond, IsTrue, None, Some, OnOk};
 ghost use Rattle.std.specs.Str.{bytes_eq};
 ghost use Rattle.cert_make.specs.private.TextSharing.{mark_at, seen_again};
-ghost use Rattle.cert_make.specs.declared.marks.Mark.TheVariants.{Number};
+ghost use Rattle.cert_make.specs.declared.marks.Mark.TheVariants.{Number, Often};
 
 use crate::text_key::TextKey;
 use std::alloc::{AllocError, Global};
@@ -23,6 +23,16 @@ fn seen(mark: Option<Mark>) -> Mark
     match mark {
         None => Mark::Once,
         Some(_) => Mark::Often,
+    }
+}
+
+// Whether a text was seen more than once.
+fn is_often(mark: Option<Mark>) -> bool
+    ensures { IsTrue result → mark ≡ Some Often }
+{
+    match mark {
+        Some(Mark::Often) => true,
+        _ => false,
     }
 }
 
@@ -50,10 +60,21 @@ impl Marks {
     }
 
     /// Sees a text. After running out of memory the marks are not used again.
-    pub(crate) fn see(&mut self, text: TextKey) -> Result<(), AllocError>
-        ensures { OnOk result ((q : List ℕ) → mark_at self.new q ≡ cond (bytes_eq q text) (Some (seen_again (mark_at self.old q))) (mark_at self.old q)) }
+    pub(crate) fn see(&mut self, alloc: Global, text: &TextKey) -> Result<(), AllocError>
+        ensures { OnOk result ((q : List ℕ) → mark_at self.new q ≡ cond (bytes_eq q text.now) (Some (seen_again (mark_at self.old q))) (mark_at self.old q)) }
     {
-        let mark = seen(self.at(&text));
+        let known = self.at(text);
+        if is_often(known) {
+            return Ok(());
+        }
+        let copied = text.copied(alloc)?;
+        self.put(copied, seen(known))
+    }
+
+    // Marks a text.
+    fn put(&mut self, text: TextKey, mark: Mark) -> Result<(), AllocError>
+        ensures { OnOk result ((q : List ℕ) → mark_at self.new q ≡ cond (bytes_eq q text) (Some mark) (mark_at self.old q)) }
+    {
         self.map.insert(text, mark)?;
         Ok(())
     }
@@ -62,7 +83,6 @@ impl Marks {
     pub(crate) fn give(&mut self, text: TextKey, number: u64) -> Result<(), AllocError>
         ensures { OnOk result ((q : List ℕ) → mark_at self.new q ≡ cond (bytes_eq q text) (Some (Number number)) (mark_at self.old q)) }
     {
-        self.map.insert(text, Mark::Number(number))?;
-        Ok(())
+        self.put(text, Mark::Number(number))
     }
 }

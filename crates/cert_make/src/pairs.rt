@@ -24,7 +24,7 @@ fn marked(alloc: Global, list: &[TextKey]) -> Result<Marks, AllocError>
 {
     let mut marks = Marks::new(alloc);
     for text in list {
-        marks.see(text.copied(alloc)?)?;
+        marks.see(alloc, text)?;
     }
     Ok(marks)
 }
@@ -45,8 +45,8 @@ fn add_entry(
     ensures sharing { SharesWith labels.now (pair_of entry.now) sharing.old result sharing.new }
     ensures room { OnOk result (sharing.new.count ≤ sharing.old.count + 1) }
 {
-    let multiplier = sharing.multiplier(alloc, out, told)?;
-    add_pair(alloc, out, entry.generator, labels, multiplier.as_slice())
+    let number = sharing.number_for(alloc, out, told)?;
+    add_pair(out, entry.generator, labels, number, told.bytes())
 }
 
 // The lines of pairs, and the last line.

@@ -14,6 +14,7 @@ use Rattle.poly_mixed.specs.declared.steps.Generator.{Generator}
 use Rattle.cert_check.specs.Running.{dual_at, dual_form, dual_words, generator_value}
 use Rattle.cert_check.specs.private.Reading.{multiplier_in}
 use Rattle.cert_check.specs.private.Units.{AddsValue, AreTerms}
+use Rattle.cert_check.specs.private.Waiting.{most_of}
 use Rattle.cert_check.specs.declared.form.Form.{Form}
 use Rattle.cert_check.specs.declared.last.LastGenerator.{LastGenerator}
 use Rattle.cert_check.specs.declared.line.Multiplier.{Multiplier}
@@ -148,9 +149,9 @@ pub record IsHeld (netlist : BoundNet) (bases : List Basis) (k : ℕ) (sum : Run
   pub reduced : IsReduced k sum.poly.terms
   pub rows : AreRows netlist bases k sum.rows.items
 
--- it is seen without adding the rows whether the size is within the bound
+-- it is seen without adding rows and what waits whether the size is within the bound
 abbrev pub IsSettled : ℕ → ℕ → RunningSum → Type 0
-IsSettled k bound sum = (sum.rows.items ≡ []) ⊎ (length sum.poly.terms + length sum.rows.items * k ≤ bound)
+IsSettled k bound sum = ((sum.rows.items ≡ []) × (sum.poly.waiting ≡ 0)) ⊎ (most_of sum.poly + length sum.rows.items * k ≤ bound)
 
 module _ (k : ℕ) (mul : ℕ → ℕ → ℕ) (netlist : BoundNet) (bases : List Basis) where
   -- the held polynomial grows by the product of a generator and terms

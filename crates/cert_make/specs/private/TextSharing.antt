@@ -72,6 +72,11 @@ lets_by (Some Once) count t = []
 lets_by (Some Often) count t = let_of count t ∷ []
 lets_by (Some (Number n)) count t = []
 
+-- how a text is written as a multiplier: by its number, or as it is where it has none
+abbrev pub named_by : Option ℕ → List ℕ → List ℕ
+named_by None t = t
+named_by (Some n) t = codes "#" ++ decimal n
+
 -- how the text is written as a multiplier
 abbrev pub written_by : Option Mark → ℕ → List ℕ → List ℕ
 written_by None count t = t

@@ -12,7 +12,7 @@ use Rattle.cert_check.specs.Verdict.{IsRunningSum, VerdictFrom, VerdictAtEnd, ve
 use Rattle.cert_check.specs.declared.fault.CertFault.{CertFault}
 use Rattle.cert_check.specs.declared.line.Line.{Line}
 use Rattle.cert_check.specs.private.Held.{dual_of, whole as held_terms, IsHeld}
-use Rattle.cert_check.specs.private.Kept.{terms_of, IsKept}
+use Rattle.cert_check.specs.private.Kept.{terms_of}
 use Rattle.cert_check.specs.private.Reading.{said_in, IsLine}
 use Rattle.cert_check.proofs.CheckLemmas.{is_line}
 use Rattle.cert_check.proofs.StepLemmas.{cert_moved}

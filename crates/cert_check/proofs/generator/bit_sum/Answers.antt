@@ -1,4 +1,3 @@
-use Rattle.std.proofs.Common.{◌∷◌, []}
 use Rattle.poly_mixed.proofs.FieldLaws.{field_of}
 use Rattle.poly_mixed.proofs.SimpleLemmas.{one_rank_rises}
 use Rattle.cert_check.proofs.SubsetLemmas.{bit_is}

@@ -2,7 +2,6 @@ use Rattle.std.proofs.Common.{sym, subst, ℕ}
 use Rattle.poly_mixed.specs.declared.steps.Generator.{Generator}
 use Rattle.cert_check.specs.Running.{generator_value}
 use Rattle.cert_check.specs.private.Held.{IsSplit}
-use Rattle.cert_check.specs.private.Kept.{IsGeneratorOf}
 use Rattle.cert_check.specs.declared.generator.Split.{Split}
 use Rattle.std.specs.Prelude.{IfOk}
 use Rattle.cert_check.proofs.generator.generator_split.Goals as goal

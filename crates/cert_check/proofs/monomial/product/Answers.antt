@@ -10,4 +10,4 @@ new-requires c =
     let P : List ℕ → Type 0 = IsStrictlySortedBy nat_cmp in
     let Q : List ℕ → Type 0 = λ xs. IsStrictlySortedBy nat_cmp (union xs c.bits-2.result.now) in
     let R : List ℕ → Type 0 = λ xs. IsStrictlySortedBy nat_cmp xs in
-    subst P (sym (c.as_slice.ensures.value ∙ c.in_ok-unite.ensures)) (rising-union c.bits.result.now c.bits-2.result.now (subst P (sym c.bits.ensures.value) c.bits.ensures.rising))
+    subst P (sym (c.as_slice.ensures ∙ c.in_ok-ranks.ensures)) (rising-union c.bits.result.now c.bits-2.result.now (subst P (sym c.bits.ensures.value) c.bits.ensures.rising))

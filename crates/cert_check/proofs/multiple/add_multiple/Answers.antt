@@ -2,7 +2,7 @@ use Rattle.std.proofs.Common.{◌≡◌, ◌∙◌, ◌<◌, ◌+◌, ◌^◌, �
 use Rattle.std.proofs.lemmas.List.{drop_more}
 use Rattle.std.specs.List.{AllByRecursion}
 use Rattle.poly_mixed.specs.Monomial.{Monomial}
-use Rattle.poly_mixed.specs.Polynomial.{Terms}
+use Rattle.poly_mixed.specs.Polynomial.{Polynomial, Terms}
 use Rattle.poly_mixed.specs.Product.{times}
 use Rattle.poly_mixed.proofs.FieldLaws.{field_of}
 use Rattle.poly_mixed.proofs.ProductLemmas.{turn, product_nothing}
@@ -33,8 +33,9 @@ loop-other-preserved g c =
     let next : units (drop n ms) ≡ (item, 1) ∷ units (drop (n + 1) ms) = units_next ms n item (drop_more ms n item c.loop-other-test.true ∙ ap (λ (m : Monomial). m ∷ drop (n + 1) ms) (sym c.other-item.is)) in
     let mono : c.in_ok-mono.mono ≡ times c.k-k.result by.0 item = c.in_ok-mono.ensures ∙ ap (λ (m : Monomial). times c.k-k.result m item) c.mono.ensures in
     let one : c.coefficient-c.result ≡ mul by.1 1 = c.coefficient-c.ensures ∙ sym (ring.comm by.1 1 ∙ ring.one by.1 c.requires.by.0.element) in
+    let new : Polynomial = record { terms = c.add_term.new.self.terms; slots = [] } in
     let t = turn (field_of _ _ ring (g.met.F.Field.no_zero_divisors c.args.field.now)) c.loop-other.sum.terms (units (drop n ms)) (units (drop (n + 1) ms)) by.0 item by.1 1
-    i.reduced c.requires.by.0 c.requires.by.1 next i.terms (nonzero (drop n ms)) c.k-k.result c.coefficient-c.result c.in_ok-mono.mono c.add_term.new.self c.k-k.ensures mono one c.in_ok-add_term.ensures in
+    i.reduced c.requires.by.0 c.requires.by.1 next i.terms (nonzero (drop n ms)) c.k-k.result c.coefficient-c.result c.in_ok-mono.mono new c.k-k.ensures mono one c.in_ok-add_term.ensures in
     record { reduced = t.0; terms = t.1; values = λ p at. t.3 p at ∙ i.values p at }
 
 pub returns-clause-values : goal.returns-clause-values

@@ -19,7 +19,7 @@ pub add_sets-requires-2 : goal.add_sets-requires-2
 add_sets-requires-2 g t c κs within =
     let more = some_if_not_zero (length c.args.ranks.now) c.if-is_empty.ensures in
     let P : List ℕ → Type 0 = IsStrictlySortedBy nat_cmp in
-    let set = subst P (sym (c.deref.ensures.value ∙ c.in_ok-more.ensures)) (rising-with_rank c.args.set.now (get_or c.args.ranks.now 0 0) c.requires.set) in
+    let set = subst P (sym (c.as_slice.ensures ∙ c.in_ok-more.ensures)) (rising-with_rank c.args.set.now (get_or c.args.ranks.now 0 0) c.requires.set) in
     (search rules, (search rules, (search rules, (omega arith, (halved_subsets c.args.ranks.now c.args.step more c.requires.within, (set, c.in_ok-add_sets.ensures.terms))))))
 
 pub returns-clause-values : goal.returns-clause-values
@@ -27,6 +27,6 @@ returns-clause-values g t c p at =
     let mul = g.F.Ring.product c.args.field.now in
     let ranks : List ℕ = c.args.ranks.now in
     let more = some_if_not_zero (length ranks) c.if-is_empty.ensures in
-    both_halves p.is_one (table_bit c.args.form) c.args.set.now c.deref.result.now (take (length ranks - 1) (drop 1 ranks)) ranks (get_or ranks 0 0) c.args.base c.args.step
+    both_halves p.is_one (table_bit c.args.form) c.args.set.now c.as_slice.result.now (take (length ranks - 1) (drop 1 ranks)) ranks (get_or ranks 0 0) c.args.base c.args.step
     (value mul p c.args.sum.now.terms) (value mul p c.add_sets.new.sum.terms) (value mul p c.add_sets-2.new.sum.terms)
-    (c.deref.ensures.value ∙ c.in_ok-more.ensures) (first_and_rest ranks more) (c.in_ok-add_sets.ensures.values p at) (c.in_ok-add_sets-2.ensures.values p at)
+    (c.as_slice.ensures ∙ c.in_ok-more.ensures) (first_and_rest ranks more) (c.in_ok-add_sets.ensures.values p at) (c.in_ok-add_sets-2.ensures.values p at)

@@ -1,9 +1,7 @@
-use Rattle.std.proofs.Common.{◌≡◌, Some, ℕ, bit_xor, arith}
+use Rattle.std.proofs.Common.{◌≡◌, Some, bit_xor, arith}
 use Rattle.std.specs.Map.{lookup}
 use Rattle.std.specs.Ordering.{eq_by_cmp}
 use Rattle.poly_mixed.specs.Monomial.{text_cmp}
-use Rattle.poly_mixed.specs.Polynomial.{Terms}
-use Rattle.poly_mixed.specs.Sum.{plus_term}
 use Rattle.cert_check.proofs.TermMapLemmas.{added_new, added_old, added_gone, sum_map}
 use Rattle.cert_check.proofs.term_map.add_to.Goals as goal
 

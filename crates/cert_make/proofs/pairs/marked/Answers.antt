@@ -12,7 +12,7 @@ loop-text-preserved c labels pairs are =
     let next = next_is labels pairs c.args.list.now c.loop-text.text-index c.text-item.result are c.loop-text-test.true c.text-item.is in
     let P : List Step → Type 0 = λ xs. AreMarks labels xs [] c.see.new.self in
     subst P (sym next.taken)
-    (marks_seen labels (take c.loop-text.text-index pairs) next.pair c.loop-text.marks c.see.new.self c.in_ok-copied.field-0 (c.loop-text.invariant labels pairs are) (c.in_ok-copied.ensures ∙ next.told) c.in_ok-see.ensures)
+    (marks_seen labels (take c.loop-text.text-index pairs) next.pair c.loop-text.marks c.see.new.self c.text-item.result (c.loop-text.invariant labels pairs are) next.told c.in_ok-see.ensures)
 
 pub returns : goal.returns
 returns c labels pairs are =

@@ -1,5 +1,5 @@
-use Rattle.std.proofs.Common.{◌≡◌, ◌∙◌, ◌∷◌, ◌++◌, [], ap, sym}
-use Rattle.poly_mixed.specs.Polynomial.{Polynomial, Terms}
+use Rattle.std.proofs.Common.{◌∙◌, ◌∷◌, ◌++◌, [], ap}
+use Rattle.poly_mixed.specs.Polynomial.{Polynomial}
 use Rattle.cert_check.proofs.UnitLemmas.{units_more}
 use Rattle.cert_check.proofs.mono_sum.MonoSum.push.Goals as goal
 

@@ -1,4 +1,4 @@
-use Rattle.std.proofs.Common.{◌≡◌, ◌∙◌, ap, sym, subst, ◌<◌, ◌*◌, ◌%◌, ◌^◌, ℕ, arith}
+use Rattle.std.proofs.Common.{sym, subst, ◌<◌, ◌*◌, ◌%◌, ◌^◌, ℕ}
 use Rattle.std.specs.List.{AllByRecursion}
 use Rattle.lists.specs.laws.PowerLaws.{one_at_below}
 use Rattle.poly_mixed.specs.Monomial.{Monomial}

@@ -5,5 +5,5 @@ use Rattle.cert_check.proofs.running_sum.RunningSum.over.Goals as goal
 
 pub returns-then-is_within-clause-within : goal.returns-then-is_within-clause-within
 returns-then-is_within-clause-within c mul dual =
-    let rows : c.len-2.result ≡ length c.args.self.now.rows.items = first_of (search rules, grind (arith, common_steps)) in
-    whole_within c.args.k mul dual c.args.bound c.args.self.now c.len.result c.len-2.result c.len.ensures rows (c.is_within.ensures.0 c.if-is_within.true)
+    let rows : c.len.result ≡ length c.args.self.now.rows.items = first_of (search rules, grind (arith, common_steps)) in
+    whole_within c.args.k mul dual c.args.bound c.args.self.now c.len.result rows (c.is_within.ensures.within c.if-is_within.true)

@@ -1,5 +1,5 @@
 use Rattle.std.proofs.Common.{◌≤◌, ℕ, subst, sym}
-use Rattle.cert_check.proofs.checking.check.Goals as goal
+use Rattle.cert_check.proofs.text_verdict.check.Goals as goal
 
 pub verdict_on-requires-clause-few : goal.verdict_on-requires-clause-few
 verdict_on-requires-clause-few g c =

@@ -7,7 +7,7 @@ use Rattle.cert_check.specs.Verdict.{VerdictFrom, Check, verdict_of}
 use Rattle.cert_check.specs.private.Reading.{head_of}
 use Rattle.cert_check.proofs.StepLemmas.{cert_moved}
 use Rattle.cert_check.proofs.TurnLemmas.{head_fails, claim_over, claim_within}
-use Rattle.cert_check.proofs.checking.verdict_on.Goals as goal
+use Rattle.cert_check.proofs.text_verdict.verdict_on.Goals as goal
 
 pub returns-in-Err : goal.returns-in-Err
 returns-in-Err g c =
