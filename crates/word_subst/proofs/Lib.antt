@@ -12,6 +12,7 @@ mod FormsExistLemmas
 mod MultiplierLemmas
 mod OneTermLemmas
 mod ToldLemmas
+mod FirstBitLemmas
 mod OneWordLemmas
 mod LiftedLemmas
 pub mod AllWordLemmas

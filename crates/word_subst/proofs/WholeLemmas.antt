@@ -17,6 +17,7 @@ use Rattle.poly_mixed.proofs.ValueLemmas.{one_element, zero_element, powers_elem
 use Rattle.stage_model.specs.WordStage.{is_of_word, with_word}
 use Rattle.stage_model.proofs.PlaceLemmas.{is_own}
 use Rattle.word_subst.specs.Univariate.{Powers, IsUnivariate, value_of}
+use Rattle.word_subst.proofs.FirstBitLemmas.{other_tests}
 use Rattle.word_subst.specs.Forms.{IsForm, IsLinear, AreForms}
 use Rattle.word_subst.specs.Multiple.{multiplied}
 use Rattle.word_subst.specs.Spread.{Groups, total, spread, all_terms, IsGroup}
@@ -133,10 +134,6 @@ module _ {k : ℕ} {mul : ℕ → ℕ → ℕ} (f : IsField k mul) (w : ℕ) (in
 
   -- ---- times a bit
 
-  other_tests : (d : ℕ) (p : Point) (rs : List ℕ) → AllByRecursion (λ r. is_of_word k w r ≡ false) rs → list_all (with_word k w d p).is_one rs ≡ list_all p.is_one rs
-  other_tests d p [] all = refl
-  other_tests d p (r ∷ rs) all = λ i. cond (all.0 i) (bit_at d (r - k * w) == 1) (p.is_one r) && other_tests d p rs all.1 i
-
   chosen_product : (a b : Bool) (e c q : ℕ) → IsElement k e → IsElement k c → IsElement k q → cond (a && b) (mul (mul e c) q) 0 ≡ cond a (mul e (cond b (mul c q) 0)) 0
   chosen_product true true e c q he hc hq = f.assoc e c q he hc hq
   chosen_product true false e c q he hc hq = sym (product_by_zero f e he)
@@ -160,7 +157,7 @@ module _ {k : ℕ} {mul : ℕ → ℕ → ℕ} (f : IsField k mul) (w : ℕ) (in
       let hq = powers_element f t.0.exponents p.words at.elements in
       let chosen : (b : Bool) → IsElement k (cond b (mul t.1 q) 0) = λ b. elim b as (λ c. IsElement k (cond c (mul t.1 q) 0)) [ true ↦ f.closed t.1 q all.0.element hq | false ↦ zero_element f ] in
       (λ i. bit_xor
-      (((λ j. cond (cond (own j) (bit_at d (rank - k * w) == 1) (p.is_one rank) && other_tests d p t.0.bits all.0.others j) (mul (mul e t.1) q) 0)
+      (((λ j. cond (cond (own j) (bit_at d (rank - k * w) == 1) (p.is_one rank) && other_tests k w d p t.0.bits all.0.others j) (mul (mul e t.1) q) 0)
       ∙ chosen_product a (list_all p.is_one t.0.bits) e t.1 q he all.0.element hq) i)
       (first_value rank e ts own he all.1 p d at i))
       ∙ chosen_sum a e (term_value mul p t) (value mul p ts) he (chosen (list_all p.is_one t.0.bits)) (part_value p at ts all.1)

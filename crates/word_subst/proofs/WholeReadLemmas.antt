@@ -3,7 +3,7 @@
 use Rattle.std.proofs.Common.{◌≡◌, ◌≢◌, ◌∙◌, ap, sym, refl, subst, ℕ, zero, suc, ◌<◌, ◌≤◌, ◌+◌, ◌-◌, ◌*◌, ◌^◌, ◌==◌, ◌&&◌, Bool, true, false, cond, List, [], ◌∷◌, ◌++◌, map, length, take, drop, slice_index, bit_xor, suc-mul, arith}
 use Rattle.std.specs.Int.{bit_at}
 use Rattle.std.specs.Int.Bits.{xor_zero_l, xor_zero_r}
-use Rattle.std.specs.List.{AllByRecursion, filter, list_all}
+use Rattle.std.specs.List.{AllByRecursion, list_all}
 use Rattle.std.proofs.Math.Nat.{mul_comm, add-zero}
 use Rattle.std.proofs.Math.Seq.{take-length}
 use Rattle.std.proofs.lemmas.List.{length-append, length-map, take-append-drop, drop_more}
@@ -20,7 +20,7 @@ use Rattle.poly_mixed.proofs.FieldLaws.{IsField}
 use Rattle.poly_mixed.proofs.ProductLemmas.{distrib_right}
 use Rattle.poly_mixed.proofs.SharedLemmas.{plus_few}
 use Rattle.poly_mixed.proofs.ValueLemmas.{one_element, zero_element, powers_element, product_zero, product_by_zero}
-use Rattle.stage_model.specs.WordStage.{is_of_word, word_bits, with_word}
+use Rattle.stage_model.specs.WordStage.{word_bits, with_word}
 use Rattle.stage_model.proofs.PlaceLemmas.{is_own}
 use Rattle.word_subst.specs.Univariate.{Powers, IsUnivariate, value_of}
 use Rattle.word_subst.specs.Forms.{IsForm, AreForms}
@@ -30,7 +30,8 @@ use Rattle.word_subst.specs.Spread.{total, spread, all_terms, IsGroup}
 use Rattle.word_subst.specs.Rest.{rest_of}
 use Rattle.word_subst.specs.Read.{HasWithin, sum_at, IsTermWithin}
 use Rattle.word_subst.specs.AtOnce.{IsReadAtOnce}
-use Rattle.word_subst.specs.Whole.{with_first, times_bits, IsPart, times_word}
+use Rattle.word_subst.specs.Whole.{with_first, times_bits, IsPart, HasFirst, times_word}
+use Rattle.word_subst.proofs.FirstBitLemmas.{one_own}
 use Rattle.word_subst.proofs.RisingLemmas.{rest_is}
 use Rattle.word_subst.proofs.LinearLemmas.{linear_few, scaled}
 use Rattle.word_subst.proofs.SomeProductsLemmas.{terms_quiet}
@@ -48,14 +49,6 @@ all_front P (x ∷ xs) ys all = (all.0, all_front P xs ys all.1)
 all_end : {X : Type 0} (P : X → Type 0) (xs ys : List X) → AllByRecursion P (xs ++ ys) → AllByRecursion P ys
 all_end P [] ys all = all
 all_end P (x ∷ xs) ys all = all_end P xs ys all.1
-
--- where nothing passes, nothing holds
-pub none_passes : (p : ℕ → Bool) (xs : List ℕ) → filter p xs ≡ [] → AllByRecursion (λ x. p x ≡ false) xs
-none_passes p [] none = tt
-none_passes p (x ∷ xs) none = elim (p x) as (λ b. p x ≡ b → cond b (x ∷ filter p xs) (filter p xs) ≡ [] → (p x ≡ false) × AllByRecursion (λ x. p x ≡ false) xs) [
-  | true ↦ λ e some. absurd (omega (arith, ap length some))
-  | false ↦ λ e rest. (e, none_passes p xs rest)
-] refl none
 
 pub some_parts : (w k : ℕ) (ts : Terms) → AllByRecursion (IsPart w k) ts → AllByRecursion (λ t. t.1 ≢ 0) ts
 some_parts w k [] all = tt
@@ -95,16 +88,29 @@ room_is k (t ∷ ts) = ap (λ n. k + n) (room_is k ts) ∙ more (length ts)
     more : (n : ℕ) → k + n * k ≡ suc n * k
     more n = omega (arith, suc-mul n k)
 
+-- ---- the first bit of a term
+
+module _ (k w : ℕ) (mul : ℕ → ℕ → ℕ) where
+  block_firsts : (i b : ℕ) (qs : Terms) → i < k → AllByRecursion (IsPart w k) qs → AllByRecursion (HasFirst w k) (map (with_first mul (k * w + i) b) qs)
+  block_firsts i b [] less parts = tt
+  block_firsts i b (q ∷ qs) less parts = (record { rank = k * w + i; rest = q.0.bits; bits = refl; own = is_own k w i less; others = parts.0.others }, block_firsts i b qs less parts.1)
+
+  all_firsts : (i : ℕ) (bs : List ℕ) (qs : Terms) → i + length bs ≤ k → AllByRecursion (IsPart w k) qs → AllByRecursion (HasFirst w k) (times_bits mul (k * w + i) bs qs)
+  all_firsts i [] qs most parts = tt
+  all_firsts i (b ∷ bs) qs most parts =
+      let P : ℕ → Type 0 = λ r. AllByRecursion (HasFirst w k) (times_bits mul r bs qs) in
+      let rest = all_firsts (suc i) bs qs (omega (arith, most)) parts in
+      all_append (HasFirst w k) (map (with_first mul (k * w + i) b) qs) (times_bits mul (k * w + i + 1) bs qs) (block_firsts i b qs (omega (arith, most)) parts) (subst P (sym (next_rank k w i)) rest)
+
+  pub whole_firsts : (elements : List ℕ) (parts terms : Terms) → length elements ≡ k → AllByRecursion (IsPart w k) parts → terms ≡ times_bits mul (k * w) elements parts → AllByRecursion (HasFirst w k) terms
+  whole_firsts elements parts terms size all is =
+      let P : Terms → Type 0 = AllByRecursion (HasFirst w k) in
+      let same : terms ≡ times_bits mul (k * w + 0) elements parts = is ∙ ap (λ r. times_bits mul r elements parts) (sym (add-zero (k * w))) in
+      subst P (sym same) (all_firsts 0 elements parts (omega (arith, size)) all)
+
 -- ---- one term
 
 module _ {k : ℕ} {mul : ℕ → ℕ → ℕ} (f : IsField k mul) (elements : List ℕ) (w : ℕ) (inside : w < 8) (forms : List Powers) (are_forms : AreForms k mul elements forms) (bound : ℕ) where
-  no_own : (rs : List ℕ) → AllByRecursion (λ r. is_of_word k w r ≡ false) rs → filter (is_of_word k w) rs ≡ []
-  no_own [] all = refl
-  no_own (r ∷ rs) all = (λ i. cond (all.0 i) (r ∷ filter (is_of_word k w) rs) (filter (is_of_word k w) rs)) ∙ no_own rs all.1
-
-  one_own : (rank : ℕ) (rs : List ℕ) → is_of_word k w rank ≡ true → AllByRecursion (λ r. is_of_word k w r ≡ false) rs → filter (is_of_word k w) (rank ∷ rs) ≡ rank ∷ []
-  one_own rank rs own all = (λ i. cond (own i) (rank ∷ filter (is_of_word k w) rs) (filter (is_of_word k w) rs)) ∙ ap (λ xs. rank ∷ xs) (no_own rs all)
-
   low_bit : (n : ℕ) → n < 2 → ◌≡◌ {A = ℕ} n (cond ((n == 1) && true) 1 0)
   low_bit zero less = refl
   low_bit (suc zero) less = refl
@@ -123,7 +129,7 @@ module _ {k : ℕ} {mul : ℕ → ℕ → ℕ} (f : IsField k mul) (elements : L
   term_within : (i b : ℕ) (q : Monomial × ℕ) → i < k → k ≤ bound → IsPart w k q → IsTerm k (with_first mul (k * w + i) b q) → mul b q.1 ≢ 0 → IsTermWithin k mul elements w (with_first mul (k * w + i) b q) bound
   term_within i b q less wide part is some j least most =
       let t : Monomial × ℕ = with_first mul (k * w + i) b q in
-      let own : word_bits k w t ≡ (k * w + i) ∷ [] = one_own (k * w + i) q.0.bits (is_own k w i less) part.others in
+      let own : word_bits k w t ≡ (k * w + i) ∷ [] = one_own k w (k * w + i) q.0.bits (is_own k w i less) part.others in
       let last : j ≡ 1 = omega (arith, least, most, ap length own) in
       let form = get_below forms i (omega (arith, less, are_forms.long)) in
       let form_is = are_forms.each i form.0 form.1 in

@@ -40,7 +40,7 @@ module _ (k : ℕ) (mul : ℕ → ℕ → ℕ) (elements : List ℕ) (w : ℕ) w
     pub univariate : IsUnivariate k us
     pub values : (x d : ℕ) → IsElement k x → AreBits elements x d → value_of mul x us ≡ xor_sum (value_from place d x) ts
 
-  -- the sum of all terms, where no stage is over the bound and nobody asks for pairs
+  -- the sum of all terms, where no stage is over the bound; where nobody asks for pairs, none are told
   pub record IsReadAtOnce (terms : Terms) (bound : ℕ) (ts : Terms) : Type 0 where
     pub sum : IsSumOf k mul elements w terms (length terms) ts
     pub small : length ts ≤ bound

@@ -1,6 +1,6 @@
 -- A polynomial that is the sum of a word's bits, each times its basis element, times a polynomial without the word: read
 -- from the word it is that polynomial times the word. Source: this project's own.
-use Rattle.std.specs.Prelude.{◌≡◌, ◌≢◌, ℕ, ◌+◌, false, List, [], ◌∷◌, ◌++◌, map}
+use Rattle.std.specs.Prelude.{◌≡◌, ◌≢◌, ℕ, ◌+◌, true, false, List, [], ◌∷◌, ◌++◌, map}
 use Rattle.std.specs.List.{AllByRecursion}
 use Rattle.poly_mixed.specs.Monomial.{Monomial}
 use Rattle.poly_mixed.specs.Polynomial.{Terms, IsElement}
@@ -23,6 +23,14 @@ pub record IsPart (w k : ℕ) (t : Monomial × ℕ) : Type 0 where
   pub others : AllByRecursion (λ r. is_of_word k w r ≡ false) t.0.bits
   pub element : IsElement k t.1
   pub some : t.1 ≢ 0
+
+-- a term whose first bit is its only one of word w, of k bits
+pub record HasFirst (w k : ℕ) (t : Monomial × ℕ) : Type 0 where
+  pub rank : ℕ
+  pub rest : List ℕ
+  pub bits : t.0.bits ≡ rank ∷ rest
+  pub own : is_of_word k w rank ≡ true
+  pub others : AllByRecursion (λ r. is_of_word k w r ≡ false) rest
 
 -- each term times the word
 abbrev pub times_word : Terms → Groups

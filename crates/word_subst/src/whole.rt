@@ -9,7 +9,7 @@ ghost use Rattle.poly_mixed.specs.Sum.{plus};
 ghost use Rattle.stage_model.specs.WordStage.{is_of_word};
 ghost use Rattle.word_subst.specs.AtOnce.{IsReadAtOnce};
 ghost use Rattle.word_subst.specs.Spread.{all_terms};
-ghost use Rattle.word_subst.specs.Whole.{IsPart, times_bits, times_word as word_times, with_first};
+ghost use Rattle.word_subst.specs.Whole.{HasFirst, IsPart, times_bits, times_word as word_times, with_first};
 
 use crate::multiple::product_by;
 use crate::rest::own_ranks;
@@ -241,7 +241,7 @@ fn parts_of_all<F: Field>(
 
 /// The sum of all terms of a polynomial, with their bits of the word read from the word, where it is a polynomial without the
 /// word times the sum of the word's bits, each times its basis element, and has no more terms than the bound: then no stage is
-/// over it. None where this is not so.
+/// over it, and the first bit of each term is its only one of the word. None where this is not so.
 pub fn whole<F: Field>(
     alloc: Global,
     field: &F,
@@ -253,7 +253,8 @@ pub fn whole<F: Field>(
     requires over { IsBasisOver (F.degree field.now) (F.product field.now) basis.now }
     requires word { word < 8 }
     requires terms { IsReduced (F.degree field.now) terms.now }
-    ensures { IfOk result (λ o. IfSome o (λ q. IsReadAtOnce (F.degree field.now) (F.product field.now) (elements_of basis.now) word terms.now bound q.terms)) }
+    ensures read { IfOk result (λ o. IfSome o (λ q. IsReadAtOnce (F.degree field.now) (F.product field.now) (elements_of basis.now) word terms.now bound q.terms)) }
+    ensures firsts { IfOk result (λ o. IfSome o (λ _. AllByRecursion (HasFirst word (F.degree field.now)) terms.now)) }
 {
     if terms.len() as u64 > u64::from(bound)
         || terms.is_empty()

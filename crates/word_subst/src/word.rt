@@ -20,7 +20,7 @@ use crate::forms::forms;
 use crate::products::BitProducts;
 use crate::rest::own_ranks;
 use crate::sums::Sums;
-use crate::tell::tell;
+use crate::tell::{tell, tell_firsts};
 use crate::term::{add_term, follow_term};
 use crate::univariate::Univariate;
 use crate::whole::whole;
@@ -142,9 +142,10 @@ pub fn one_word<F: Field, T: Steps>(
         if let Some(poly) = at_once(alloc, field, basis, word, &terms, bound)? {
             return Ok(poly);
         }
-        if let Some(poly) = whole(alloc, field, basis, word, &terms, bound)? {
-            return Ok(poly);
-        }
+    }
+    if let Some(poly) = whole(alloc, field, basis, word, &terms, bound)? {
+        tell_firsts(alloc, field, basis, word, &terms, steps)?;
+        return Ok(poly);
     }
     let poly = term_by_term(alloc, field, basis, word, &terms, bound, steps)?;
     Ok(poly)

@@ -2,7 +2,7 @@ use Rattle.std.proofs.Common.{◌≡◌, ◌∙◌, sym, true, ◌==◌, length,
 use Rattle.std.proofs.lemmas.Bool.{eqb-true}
 use Rattle.std.proofs.lemmas.List.{nil_from_length}
 use Rattle.stage_model.specs.WordStage.{is_of_word}
-use Rattle.word_subst.proofs.WholeReadLemmas.{none_passes}
+use Rattle.word_subst.proofs.FirstBitLemmas.{none_passes}
 use Rattle.word_subst.proofs.whole.are_others.Goals as goal
 
 pub returns : goal.returns
