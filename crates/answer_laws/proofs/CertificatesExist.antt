@@ -60,12 +60,13 @@ use Rattle.answer_certificates.specs.Verify.{verify_reply, VerdictOf, VerifyAnsw
 use Rattle.answer_certificates.proofs.CertificateLabelLemmas.{has_numbers}
 use Rattle.reader_laws.proofs.CertificateExists.{some_certificate, some_verdict}
 use Rattle.reader_laws.proofs.NetlistExists.{some_netlist_in, some_read}
-use Rattle.answer_laws.specs.Outcomes.{HasOutcome}
-use Rattle.answer_laws.proofs.CertificateFaults.{certificate_told, IsOfLine}
+use Rattle.job_laws.specs.HasOutcome.{HasOutcome}
+use Rattle.job_laws.proofs.CircuitExists.{some_circuit_in, some_unrolled}
 use Rattle.exist_laws.proofs.DualsExist.{some_basis}
-use Rattle.answer_laws.proofs.SomeCircuits.{abstract_decided, some_circuit_in, some_in_words, some_unrolled}
-use Rattle.answer_laws.proofs.SomeStaged.{some_staged}
 use Rattle.exist_laws.proofs.StepsExist.{some_steps_to, some_word_steps}
+use Rattle.answer_laws.proofs.CertificateFaults.{certificate_told, IsOfLine}
+use Rattle.answer_laws.proofs.SomeCircuits.{abstract_decided, some_in_words}
+use Rattle.answer_laws.proofs.SomeStaged.{some_staged}
 
 -- ---- faults of texts
 
@@ -266,7 +267,7 @@ module _ (setting : SettingValue) (bytes : List ℕ) (is_setting : SettingOf byt
 module _ (held : Option Files) (bytes : List ℕ) (setting : SettingValue) (is_setting : SettingOf bytes (Ok setting)) (net file : Word) (bound cycles : ℕ) where
   pub some_certify : HasOutcome (CertifyAnswer held setting net bound cycles)
   some_certify =
-      some_bind (CircuitIn held setting.signature net cycles) (λ circuit. CertifyReply setting circuit bound) (some_circuit_in held bytes setting is_setting net cycles)
+      some_bind (CircuitIn held setting.signature net cycles) (λ circuit. CertifyReply setting circuit bound) (some_circuit_in held setting.signature net cycles)
       (λ circuit is. some_certify_reply setting bytes is_setting (by_ending net is.1.0) cycles circuit (is.0, is.1.2, is.2) bound)
 
   some_by : (netlist : BoundNet) (certificate : List ℕ) → HasOutcome (CertifiedBy net netlist cycles certificate)

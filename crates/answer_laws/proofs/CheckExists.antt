@@ -1,9 +1,8 @@
 -- Some reply or some fault comes of `check`, over the setting of a text.
-use Rattle.std.proofs.Common.{◌≡◌, ◌∙◌, refl, sym, ℕ, Bool, List, length, Option, Some, Ok, Err}
+use Rattle.std.proofs.Common.{◌≡◌, ◌∙◌, refl, sym, ℕ, Bool, List, length, Option, Some, Ok}
 use Rattle.outcome.specs.Outcome.{Exactly, Within}
 use Rattle.outcome.proofs.SomeLemmas.{some_bind, some_exactly, some_within}
 use Rattle.job_io.specs.Shelf.{Files}
-use Rattle.gf_field.specs.Ring.{IsRing}
 use Rattle.net_words.specs.Binding.{BoundNet}
 use Rattle.poly_mixed.specs.Labels.{Labelling}
 use Rattle.circuit_model.specs.Circuit.{Circuit}
@@ -14,19 +13,14 @@ use Rattle.circuit_model.proofs.OutLemmas.{one_out, some_out}
 use Rattle.spec_expand.specs.SpecListing.{spec_listing}
 use Rattle.spec_expand.specs.SpecValue.{spec_at}
 use Rattle.spec_expand.specs.Specification.{SpecTerms}
-use Rattle.spec_text.specs.Fault.{ComesOfText}
-use Rattle.spec_text.specs.declared.fault.SpecFault.TheVariants as text
-use Rattle.spec_text.proofs.ExistsLemmas.{some_outcome}
 use Rattle.job_words.specs.Operands.{Word}
 use Rattle.job_words.specs.StageFault.{stage_text}
 use Rattle.job_words.specs.declared.fault.Fault.TheVariants as faults
-use Rattle.job_words.specs.declared.specification_fault.SpecificationFault.TheVariants as specification
-use Rattle.job_input.specs.File.{Read}
 use Rattle.job_input.specs.Labelling.{labels_of}
 use Rattle.job_input.specs.NetlistOf.{NetlistIn}
 use Rattle.job_input.specs.SettingOf.{SettingOf}
 use Rattle.job_input.specs.SettingValue.{SettingValue}
-use Rattle.job_input.specs.SpecificationIn.{SpecificationIn, SpecificationOf}
+use Rattle.job_input.specs.SpecificationIn.{SpecificationIn}
 use Rattle.job_input.proofs.SettingSoundLemmas.{setting_sound}
 use Rattle.answer_core.specs.Abstraction.{taken_circuit, AbstractOf, IsInWords, abstract_stages}
 use Rattle.answer_core.specs.Judged.{IsJudged, IsSpecified, JudgedOf}
@@ -35,29 +29,12 @@ use Rattle.answer_core.specs.Simpler.{SimplerUnrolledIn}
 use Rattle.answer_core.specs.Staged.{either_text}
 use Rattle.answer_polynomials.specs.Check.{check_reply, CheckAnswer, CheckBeside, CheckOver, CheckReply, CheckUnrolled, WordsLine}
 use Rattle.answer_polynomials.proofs.SomeComparisonLemmas.{compared}
-use Rattle.answer_laws.specs.Outcomes.{HasOutcome}
+use Rattle.reader_laws.proofs.NetlistExists.{some_netlist_in}
+use Rattle.job_laws.specs.HasOutcome.{HasOutcome}
+use Rattle.job_laws.proofs.FileExists.{some_specification}
+use Rattle.exist_laws.proofs.SpecDecided.{spec_decided}
 use Rattle.answer_laws.proofs.SomeCircuits.{abstract_decided, some_in_words, some_simpler_unrolled, taken_long, taken_well}
 use Rattle.answer_laws.proofs.SomeStaged.{some_staged}
-use Rattle.exist_laws.proofs.SpecDecided.{spec_decided}
-use Rattle.reader_laws.proofs.NetlistExists.{some_netlist_in, some_read}
-
--- ---- specifications
-
-module _ (labels : Labelling) (k : ℕ) (product : ℕ → ℕ → ℕ) (bytes : List ℕ) where
-  named : (outcome : _) → ComesOfText labels k product bytes outcome → HasOutcome (SpecificationOf labels k product bytes)
-  named (Ok terms) comes = (Ok terms, comes.0)
-  named (Err (text.Syntax place)) comes = (Err (specification.Syntax place), comes.0)
-  named (Err (text.UnknownWord place)) comes = (Err (specification.UnknownWord place), comes.0)
-  named (Err (text.BadNumber place)) comes = (Err (specification.BadNumber place), comes.0)
-  named (Err text.OutOfMemory) comes = absurd comes.1
-
-  pub some_specification : IsRing k product → HasOutcome (SpecificationOf labels k product bytes)
-  some_specification ring = let some = some_outcome labels k product ring bytes in named some.0 some.1
-
-pub some_specification_in : (held : Option Files) (labels : Labelling) (k : ℕ) (product : ℕ → ℕ → ℕ) (file : Word) → IsRing k product → HasOutcome (SpecificationIn held labels k product file)
-some_specification_in held labels k product file ring =
-    some_bind (Within faults.File (Read held file)) (λ bytes. Within faults.Specification (SpecificationOf labels k product bytes)) (some_within faults.File (Read held file) (some_read held file))
-    (λ bytes may. some_within faults.Specification (SpecificationOf labels k product bytes) (some_specification labels k product bytes ring))
 
 -- ---- over a circuit
 
@@ -106,5 +83,5 @@ module _ (held : Option Files) (bytes : List ℕ) (setting : SettingValue) (is_s
       some_bind (NetlistIn held setting.signature net) (λ netlist. CheckOver held setting net netlist file bound cycles simple) (some_netlist_in held setting.signature net)
       (λ netlist netlist_in.
       some_bind (SpecificationIn held (labels_of setting.k setting.signature.words) setting.k setting.product file) (λ spec. CheckUnrolled setting net netlist spec bound cycles simple)
-      (some_specification_in held (labels_of setting.k setting.signature.words) setting.k setting.product file (setting_sound bytes setting is_setting).ring)
+      (some_specification held (labels_of setting.k setting.signature.words) setting.k setting.product file (setting_sound bytes setting is_setting).ring)
       (λ spec may. some_check_unrolled netlist netlist_in spec))

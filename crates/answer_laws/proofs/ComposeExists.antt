@@ -4,13 +4,10 @@ use Rattle.outcome.specs.Outcome.{◌>>=◌, Exactly, Within}
 use Rattle.outcome.proofs.SomeLemmas.{some_bind, some_exactly, some_within}
 use Rattle.job_io.specs.Shelf.{Files}
 use Rattle.net_blif.specs.Design.{ModelValue}
-use Rattle.net_blif.specs.Models.{AreRight, BlifDesign}
-use Rattle.net_core.specs.NetList.{NetList}
-use Rattle.net_flat.specs.Flat.{Flattens}
+use Rattle.net_blif.specs.Models.{AreRight}
 use Rattle.net_signature.specs.Body.{BlockValue}
 use Rattle.net_signature.specs.Signature.{SignatureValue}
 use Rattle.net_words.specs.Bind.{BindingOf}
-use Rattle.net_words.specs.declared.binding.BindFault.{BindFault}
 use Rattle.net_words.specs.declared.feed.FeedText.{FeedText}
 use Rattle.poly_mixed.specs.Polynomial.{Terms}
 use Rattle.compose_model.specs.Given.{IsGiven}
@@ -29,12 +26,7 @@ use Rattle.block_compose.specs.declared.fault.ComposeFault.TheVariants as compos
 use Rattle.block_compose.proofs.GivenLemmas.{unfed_words}
 use Rattle.job_words.specs.Operands.{Word}
 use Rattle.job_words.specs.declared.fault.Fault.{Fault}
-use Rattle.job_words.specs.declared.fault.Fault.TheVariants as faults
-use Rattle.job_words.specs.declared.netlist_fault.NetlistFault.{NetlistFault}
-use Rattle.job_words.specs.declared.netlist_fault.NetlistFault.TheVariants as netlist
-use Rattle.job_input.specs.File.{Read}
 use Rattle.job_input.specs.HierarchyIn.{HierarchyIn, HierarchyOf, TopBinds}
-use Rattle.job_input.specs.NetlistOf.{of_binding, of_model, of_text, WordsBound}
 use Rattle.job_input.specs.SettingOf.{BlocksHaveBases, SettingOf}
 use Rattle.job_input.specs.SettingSound.{IsSoundSetting}
 use Rattle.job_input.specs.SettingValue.{SettingValue}
@@ -46,41 +38,15 @@ use Rattle.answer_composition.proofs.ComposeDetermined.{block_based, top_based}
 use Rattle.answer_composition.proofs.ComposeLineLemmas.{hierarchy_right}
 use Rattle.answer_makers.proofs.SettingFieldLemmas.{named_by}
 use Rattle.reader_laws.specs.SoundModels.{AreSoundModels}
-use Rattle.reader_laws.proofs.BindingExists.{some_binding}
-use Rattle.reader_laws.proofs.BlifExists.{some_design}
 use Rattle.reader_laws.proofs.BlifSound.{sound_design}
-use Rattle.reader_laws.proofs.FlatExists.{some_flat}
-use Rattle.reader_laws.proofs.NetlistExists.{some_read}
-use Rattle.answer_laws.specs.Outcomes.{HasOutcome}
+use Rattle.job_laws.specs.HasOutcome.{HasOutcome}
+use Rattle.job_laws.proofs.CircuitExists.{some_hierarchy}
 use Rattle.answer_laws.proofs.StagesExist.{some_no_cycle, some_stages}
 use Rattle.answer_laws.proofs.TopsExist.{blocks_there, some_top, some_wired}
 use Rattle.answer_laws.proofs.UsesExist.{some_uses, uses_kept}
 
--- ---- the netlist
+-- ---- the models of a text
 
-module _ (signature : SignatureValue) where
-  some_bound : (net : NetList) → HasOutcome (WordsBound signature.words signature.feeds net)
-  some_bound net =
-      some_bind (Within named (BindingOf net signature.words signature.feeds)) (λ bound. Exactly (record { net = net; binding = bound })) (some_within named (BindingOf net signature.words signature.feeds) (some_binding net signature.words signature.feeds)) (λ bound may. some_exactly (record { net = net; binding = bound }))
-    where
-      named : BindFault → NetlistFault
-      named fault = netlist.Binding (of_binding signature.words net fault)
-
-  some_binds : (design : List ModelValue) → AreSoundModels design → HasOutcome (TopBinds signature design)
-  some_binds design sound =
-      some_bind (Within of_model (Flattens design 0)) (λ net. WordsBound signature.words signature.feeds net >>= (λ bound. Exactly tt)) (some_within of_model (Flattens design 0) (some_flat design 0 sound)) (λ net may.
-      some_bind (WordsBound signature.words signature.feeds net) (λ bound. Exactly tt) (some_bound net) (λ bound is. some_exactly tt))
-
-  some_hierarchy : (text : List ℕ) → HasOutcome (HierarchyOf signature text)
-  some_hierarchy text =
-      some_bind (Within of_text (BlifDesign text)) (λ design. TopBinds signature design >>= (λ binds. Exactly design)) (some_within of_text (BlifDesign text) (some_design text)) (λ design read.
-      some_bind (TopBinds signature design) (λ binds. Exactly design) (some_binds design (sound_design text design read)) (λ binds is. some_exactly design))
-
-  some_hierarchy_in : (held : Option Files) (file : Word) → HasOutcome (HierarchyIn held signature file)
-  some_hierarchy_in held file =
-      some_bind (Within faults.File (Read held file)) (λ text. Within (faults.Netlist file) (HierarchyOf signature text)) (some_within faults.File (Read held file) (some_read held file)) (λ text read. some_within (faults.Netlist file) (HierarchyOf signature text) (some_hierarchy text))
-
--- what is known of the models of a text
 module _ (signature : SignatureValue) (text : List ℕ) (design : List ModelValue) (of : HierarchyOf signature text (Ok design)) where
   sound_models : AreSoundModels design
   sound_models = let P : List ModelValue → Type 0 = AreSoundModels in subst P (sym of.2.2) (sound_design text of.0 of.1)
@@ -194,5 +160,5 @@ module _ (bytes : List ℕ) (setting : SettingValue) (is_setting : SettingOf byt
 module _ (held : Option Files) (bytes : List ℕ) (setting : SettingValue) (is_setting : SettingOf bytes (Ok setting)) (net : Word) (bound : ℕ) where
   pub some_compose : HasOutcome (ComposeAnswer held setting net bound)
   some_compose =
-      some_bind (HierarchyIn held setting.signature net) (λ design. ComposeOver setting design bound) (some_hierarchy_in setting.signature held net)
+      some_bind (HierarchyIn held setting.signature net) (λ design. ComposeOver setting design bound) (some_hierarchy held setting.signature net)
       (λ design is. some_over bytes setting is_setting is.0 design is.2 bound)

@@ -21,7 +21,8 @@ use Rattle.net_words.specs.declared.word.Role.{Role}
 use Rattle.net_words.specs.declared.word.Role.TheVariants.{Fed, Input, Output, State}
 use Rattle.net_words.specs.declared.word.WordText.{WordText}
 use Rattle.reader_laws.proofs.DecidedLemmas.{all_decided, both_decided, bytes_decided, even_decided, moved_decided, most_decided, IsDecided}
-use Rattle.answer_laws.proofs.NamesDecided.{below_decided, empty_decided, maker_names_decided, not_decided, places_decided}
+use Rattle.job_laws.proofs.Searches.{found_decided, not_decided}
+use Rattle.answer_laws.proofs.NamesDecided.{empty_decided, maker_names_decided, places_decided}
 
 -- ---- roles, bases and sources
 
@@ -200,14 +201,14 @@ module _ (k : ℕ) (some : 1 ≤ k) (feeds : List FeedText) where
       moved_decided (λ is. record { some = is.0; count = is.1.0.0; whole = is.1.0.2; long = is.1.1.0; each = is.1.1.1 })
       (λ (is : AreDigitFeeds k width feeds). (is.some, ((is.count, count_low width is.count is.some is.whole, is.whole), (is.long, is.each))))
       (both_decided (most_decided 1 width)
-      (both_decided (below_decided (λ count. k ≡ width * count) (λ count. even_decided k (width * count)) (suc k)) (both_decided (even_decided (length feeds) k) (places_decided (IsDigitFeed k width feeds) (feed_decided width) feeds))))
+      (both_decided (found_decided (λ count. k ≡ width * count) (λ count. even_decided k (width * count)) (suc k)) (both_decided (even_decided (length feeds) k) (places_decided (IsDigitFeed k width feeds) (feed_decided width) feeds))))
 
 module _ (k : ℕ) (some : 1 ≤ k) (signature : SignatureValue) where
   abbrev HasWidth : ℕ → Type 0
   HasWidth width = AreDigitFeeds k width signature.feeds × AreMakerNames (outer_names signature.words (digit_names width signature.feeds))
 
   width_decided : IsDecided ((width : ℕ) × (width < suc k) × HasWidth width)
-  width_decided = below_decided HasWidth (λ width. both_decided (feeds_decided k some signature.feeds width) (maker_names_decided (outer_names signature.words (digit_names width signature.feeds)))) (suc k)
+  width_decided = found_decided HasWidth (λ width. both_decided (feeds_decided k some signature.feeds width) (maker_names_decided (outer_names signature.words (digit_names width signature.feeds)))) (suc k)
 
   pub digit_form_decided : IsDecided (HasDigitForm k signature)
   digit_form_decided =

@@ -1,4 +1,4 @@
--- Some reply or fault 45 comes of `iso`, over the setting of a text, where a second signature or a fault does.
+-- Some reply or some fault comes of `iso`, over the setting of a text.
 use Rattle.std.proofs.Common.{◌≡◌, ap, sym, refl, subst, inl, inr, ℕ, ◌*◌, ◌≤◌, ◌^◌, List, [], ◌∷◌, length, Option, Ok, Err, arith}
 use Rattle.outcome.proofs.SomeLemmas.{some_bind}
 use Rattle.job_io.specs.Shelf.{Files}
@@ -26,8 +26,9 @@ use Rattle.job_input.specs.SignedIn.{SecondIn}
 use Rattle.answer_makers.proofs.SettingFieldLemmas.{named_by}
 use Rattle.answer_tables.specs.Iso.{AreFitting, IsoAnswer, IsoReply}
 use Rattle.reader_laws.proofs.DecidedLemmas.{both_decided, even_decided, most_decided, IsDecided}
+use Rattle.job_laws.specs.HasOutcome.{HasOutcome}
+use Rattle.job_laws.proofs.SettingExists.{some_second}
 use Rattle.exist_laws.proofs.IsoExists.{some_iso}
-use Rattle.answer_laws.specs.Outcomes.{HasOutcome}
 use Rattle.answer_laws.proofs.NamesDecided.{empty_decided}
 
 -- the isomorphism to the field of a modulus from a tower of two coefficients
@@ -89,7 +90,7 @@ module _ (held : Option Files) (bytes : List ℕ) (setting : SettingValue) (is_s
       let P : SignatureValue → Type 0 = λ s. IsFieldName s.modulus s.tower s.upper in
       subst P (sym same) (named_by text other (signed, is_signed, is_other)).name
 
-  pub some_iso_answer : HasOutcome (SecondIn held file) → HasOutcome (IsoAnswer held setting.signature file)
-  some_iso_answer some =
-      some_bind (SecondIn held file) (IsoReply setting.signature) some
+  pub some_iso_answer : HasOutcome (IsoAnswer held setting.signature file)
+  some_iso_answer =
+      some_bind (SecondIn held file) (IsoReply setting.signature) (some_second held file)
       (λ second is. let one = (named_by bytes setting is_setting).name in let two = second_name second is in reply_by setting.signature second one two (fit_decided setting.signature second one two))

@@ -5,7 +5,7 @@ use Rattle.lists.specs.Lists.{Has}
 use Rattle.lists.specs.laws.HasLaws.{none_at}
 use Rattle.outcome.specs.ForEach.{ForEach}
 use Rattle.outcome.specs.Outcome.{Outcome}
-use Rattle.answer_laws.specs.Outcomes.{HasOutcome}
+use Rattle.job_laws.specs.HasOutcome.{HasOutcome}
 
 module _ {X A F : Type 0} (may : X → Outcome F A) where
   one_more : (x : X) (xs : List X) (value : A) → may x (Ok value) → (outcome : Result (List A) F) → ForEach may xs outcome → HasOutcome (ForEach may (x ∷ xs))

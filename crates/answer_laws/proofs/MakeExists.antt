@@ -35,7 +35,7 @@ use Rattle.job_input.proofs.SettingSoundLemmas.{setting_sound}
 use Rattle.answer_makers.specs.Make.{base_degree, element_of, first_conjugates, first_element, HasFormOf, IsInNormalBasis, IsMade, IsOverBase, IsOverTower, MadeOf, MakeAnswer}
 use Rattle.answer_makers.proofs.SettingFieldLemmas.{first_basis, named_by, IsNamed}
 use Rattle.reader_laws.proofs.DecidedLemmas.{moved_decided, IsDecided}
-use Rattle.answer_laws.specs.Outcomes.{HasOutcome}
+use Rattle.job_laws.specs.HasOutcome.{HasOutcome}
 use Rattle.answer_laws.proofs.FormsDecided.{adder_form_decided, composite_form_decided, digit_form_decided, montgomery_form_decided, normal_form_decided, poly_form_decided}
 
 -- ---- fields

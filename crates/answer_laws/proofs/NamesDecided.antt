@@ -1,33 +1,12 @@
 -- What is decided of lists and of names that makers ask for: that it holds, or that it does not.
-use Rattle.std.proofs.Common.{◌≡◌, ◌∙◌, ap, refl, subst, inl, inr, ℕ, zero, suc, ◌+◌, ◌<◌, List, [], ◌∷◌, length, Some, arith}
+use Rattle.std.proofs.Common.{◌≡◌, ◌∙◌, ap, refl, subst, inl, inr, ℕ, zero, suc, ◌+◌, List, [], ◌∷◌, length, Some, arith}
 use Rattle.std.specs.Prelude.{slice_get}
 use Rattle.lists.specs.Lists.{Has}
 use Rattle.lists.specs.laws.HasLaws.{none_at}
 use Rattle.net_write.specs.Plain.{IsPlainByte}
 use Rattle.make_nets.specs.MakerNames.{AreApart, AreMakerNames, IsMakerName}
 use Rattle.reader_laws.proofs.DecidedLemmas.{all_decided, both_decided, bytes_decided, even_decided, moved_decided, most_decided, IsDecided}
-
--- ---- parts
-
-pub not_decided : {P : Type 0} → IsDecided P → IsDecided (P → ⊥)
-not_decided (inl p) = inr (λ other. other p)
-not_decided (inr other) = inl other
-
--- one of so many numbers
-module _ (P : ℕ → Type 0) (each : (i : ℕ) → IsDecided (P i)) where
-  lower : (n : ℕ) → (P n → ⊥) → (i : ℕ) → i < suc n → P i → i < n
-  lower n other i less is = elim (even_decided i n) [ inl same ↦ absurd (other (subst P same is)) | inr apart ↦ omega (arith, less, apart) ]
-
-  pub below_decided : (n : ℕ) → IsDecided ((i : ℕ) × (i < n) × P i)
-  below_decided zero = inr (λ is. omega (arith, is.1))
-  below_decided (suc n) =
-      elim (each n) [
-        | inl here ↦ inl (n, omega arith, here)
-        | inr other ↦ elim (below_decided n) [
-          | inl found ↦ inl (found.0, omega (arith, found.1), found.2)
-          | inr none ↦ inr (λ is. none (is.0, lower n other is.0 is.1 is.2, is.2))
-        ]
-      ]
+use Rattle.job_laws.proofs.Searches.{not_decided}
 
 -- ---- lists
 

@@ -17,7 +17,7 @@ use Rattle.answer_core.specs.Simpler.{SimplerIn}
 use Rattle.answer_polynomials.specs.Abstract.{AbstractAnswer, AbstractReply}
 use Rattle.answer_polynomials.specs.Bits.{BitsAnswer, BitsReply}
 use Rattle.answer_polynomials.proofs.EqualLemmas.{well}
-use Rattle.answer_laws.specs.Outcomes.{HasOutcome}
+use Rattle.job_laws.specs.HasOutcome.{HasOutcome}
 use Rattle.answer_laws.proofs.CheckExists.{some_abstracted}
 use Rattle.answer_laws.proofs.SomeCircuits.{bits_decided, some_last_cut}
 use Rattle.answer_laws.proofs.SomeStaged.{some_staged}

@@ -23,7 +23,7 @@ use Rattle.answer_polynomials.specs.Same.{same_reply, same_stages, AreCompared, 
 use Rattle.answer_polynomials.proofs.EqualLemmas.{count, well}
 use Rattle.answer_polynomials.proofs.SomeComparisonLemmas.{compared}
 use Rattle.reader_laws.proofs.NetlistExists.{some_netlist_in}
-use Rattle.answer_laws.specs.Outcomes.{HasOutcome}
+use Rattle.job_laws.specs.HasOutcome.{HasOutcome}
 use Rattle.answer_laws.proofs.SomeCircuits.{bits_decided, some_simpler_unrolled}
 use Rattle.answer_laws.proofs.SomeStaged.{some_staged}
 use Rattle.answer_laws.proofs.TakenExists.{taken_bases, taken_from}

@@ -1,10 +1,7 @@
--- The circuit of a netlist's cycles, or a simpler one, exists or is refused; and a circuit that was taken has its stages decided.
-use Rattle.std.proofs.Common.{◌≡◌, refl, inl, inr, ℕ, Bool, true, false, List, length, reverse, Option, Ok, Err, arith}
-use Rattle.std.proofs.lemmas.Bool.{cases_lt}
-use Rattle.lists.specs.Limits.{most_nets}
-use Rattle.outcome.proofs.SomeLemmas.{some_bind, some_within}
+-- The circuit of a netlist's cycles has a simpler one, where it is asked for; and a circuit that was taken has its stages decided.
+use Rattle.std.proofs.Common.{◌≡◌, refl, inl, inr, ℕ, Bool, true, false, List, length, reverse, Option, Ok, arith}
+use Rattle.outcome.proofs.SomeLemmas.{some_bind}
 use Rattle.job_io.specs.Shelf.{Files}
-use Rattle.net_core.specs.NetList.{nets}
 use Rattle.net_core.specs.Sound.{IsSound}
 use Rattle.net_words.specs.Binding.{BoundNet}
 use Rattle.net_simplify.proofs.CircuitLemmas.{circuit_some}
@@ -22,9 +19,7 @@ use Rattle.stage_model.proofs.SomeOverLemmas.{circuit_cuts_decided, words_decide
 use Rattle.stage_model.proofs.SomeStageLemmas.{cut_polynomial, mix_polynomial}
 use Rattle.job_words.specs.Operands.{Word}
 use Rattle.job_words.specs.declared.fault.Fault.{Fault}
-use Rattle.job_words.specs.declared.fault.Fault.TheVariants.{Netlist}
-use Rattle.job_words.specs.declared.netlist_fault.NetlistFault.TheVariants.{TooManyGates, TooManyNets}
-use Rattle.job_input.specs.CircuitOf.{all_cycles, CircuitIn, CircuitOf, UnrolledIn}
+use Rattle.job_input.specs.CircuitOf.{UnrolledIn}
 use Rattle.job_input.specs.NetlistOf.{by_ending, NetlistIn}
 use Rattle.job_input.specs.SettingOf.{SettingOf}
 use Rattle.job_input.specs.SettingSound.{IsSoundSetting}
@@ -34,23 +29,10 @@ use Rattle.answer_core.specs.Abstraction.{abstract_stages, bits_stages, taken_ci
 use Rattle.answer_core.specs.Simpler.{SimplerOf, SimplerUnrolledIn}
 use Rattle.answer_core.proofs.SimplerLemmas.{simpler_long, simpler_well}
 use Rattle.answer_core.proofs.TakenLemmas.{one_cycle}
-use Rattle.reader_laws.proofs.NetlistExists.{some_netlist_in}
-use Rattle.answer_laws.specs.Outcomes.{HasOutcome}
+use Rattle.job_laws.specs.HasOutcome.{HasOutcome}
+use Rattle.job_laws.proofs.CircuitExists.{some_unrolled}
 
 -- ---- circuits
-
-some_circuit : (netlist : BoundNet) (cycles : ℕ) → HasOutcome (CircuitOf netlist cycles)
-some_circuit netlist cycles =
-    elim (cases_lt most_nets (nets (all_cycles netlist cycles).net)) [
-      | inl many ↦ (Err TooManyNets, inl (refl, many))
-      | inr few ↦ elim (cases_lt most_nets (length (all_cycles netlist cycles).net.gates)) [
-        | inl more ↦ (Err TooManyGates, inr (refl, omega (arith, few), more))
-        | inr less ↦ (Ok (all_cycles netlist cycles), (refl, omega (arith, few), omega (arith, less)))
-      ]
-    ]
-
-pub some_unrolled : (file : Word) (netlist : BoundNet) (cycles : ℕ) → HasOutcome (UnrolledIn file netlist cycles)
-some_unrolled file netlist cycles = some_within (Netlist file) (CircuitOf netlist cycles) (some_circuit netlist cycles)
 
 -- of each sound circuit there is a simpler one
 some_simpler : (simple : Bool) (circuit : BoundNet) → IsSound circuit.net → HasOutcome {F = Fault} (SimplerOf simple circuit)
@@ -60,9 +42,6 @@ some_simpler false circuit is_sound = (Ok circuit, refl)
 module _ (held : Option Files) (bytes : List ℕ) (setting : SettingValue) (is_setting : SettingOf bytes (Ok setting)) (net : Word) (cycles : ℕ) where
   abbrev sound : IsSoundSetting setting
   sound = setting_sound bytes setting is_setting
-
-  pub some_circuit_in : HasOutcome (CircuitIn held setting.signature net cycles)
-  some_circuit_in = some_bind (NetlistIn held setting.signature net) (λ netlist. UnrolledIn net netlist cycles) (some_netlist_in held setting.signature net) (λ netlist may. some_unrolled net netlist cycles)
 
   module _ (netlist : BoundNet) (netlist_in : NetlistIn held setting.signature net (Ok netlist)) (simple : Bool) where
     circuit_sound : (circuit : BoundNet) → UnrolledIn net netlist cycles (Ok circuit) → IsSound circuit.net

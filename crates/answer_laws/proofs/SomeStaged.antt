@@ -3,7 +3,7 @@ use Rattle.std.proofs.Common.{refl, inl, inr, ℕ, List, Ok, Err}
 use Rattle.stage_model.specs.Listing.{Listing}
 use Rattle.stage_model.proofs.SearchLemmas.{IsDecided}
 use Rattle.answer_core.specs.Staged.{Staged}
-use Rattle.answer_laws.specs.Outcomes.{HasOutcome}
+use Rattle.job_laws.specs.HasOutcome.{HasOutcome}
 
 module _ (k : ℕ) (product : ℕ → ℕ → ℕ) {N A : Type 0} (listing : Listing N) (called : N → List ℕ) (bound : ℕ) (Is : A → Type 0) where
   pub some_staged : (value : A) → Is value → IsDecided k product listing bound → HasOutcome (Staged k product listing called bound Is)

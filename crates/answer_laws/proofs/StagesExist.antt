@@ -33,7 +33,7 @@ use Rattle.compose_stages.proofs.LevelLemmas.{instance_levels}
 use Rattle.block_compose.specs.Composed.{HasNoCycle, StagesOf}
 use Rattle.block_compose.specs.declared.fault.ComposeFault.TheVariants.{InstanceLoop, TooManyTerms}
 use Rattle.reader_laws.proofs.CycleExists.{first_of_cycle, some_cycle}
-use Rattle.answer_laws.specs.Outcomes.{HasOutcome}
+use Rattle.job_laws.specs.HasOutcome.{HasOutcome}
 
 -- ---- cycles
 

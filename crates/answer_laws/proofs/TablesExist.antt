@@ -30,10 +30,11 @@ use Rattle.answer_tables.specs.Lift.{table_words, LiftAnswer, LiftOver, LiftRepl
 use Rattle.answer_tables.specs.Table.{TableAnswer, TableOver, TableReply}
 use Rattle.answer_tables.proofs.SomeTableLemmas.{some_polynomial, some_table}
 use Rattle.reader_laws.proofs.NetlistExists.{some_netlist_in}
-use Rattle.answer_laws.specs.Outcomes.{HasOutcome}
-use Rattle.answer_laws.proofs.SomeCircuits.{some_circuit_in, some_unrolled}
+use Rattle.job_laws.specs.HasOutcome.{HasOutcome}
+use Rattle.job_laws.proofs.CircuitExists.{some_circuit_in, some_unrolled}
+use Rattle.job_laws.proofs.FileExists.{some_table_in}
 use Rattle.answer_laws.proofs.TakenExists.{taken_whole}
-use Rattle.answer_laws.proofs.ValuesExist.{some_size, some_table_in, some_values}
+use Rattle.answer_laws.proofs.ValuesExist.{some_size, some_values}
 
 module _ (setting : SettingValue) (circuit : BoundNet) (taken : IsTaken setting circuit) where
   eval_reply : (values : List Word) (xs : List ℕ) → ValuesOf setting.k (table_words setting) values (Ok xs) → HasOutcome (EvalReply setting circuit xs)
@@ -62,7 +63,7 @@ module _ (held : Option Files) (bytes : List ℕ) (setting : SettingValue) (is_s
 
   table_over : (net : Word) (cycles : ℕ) → HasOutcome (TableOver held setting net cycles)
   table_over net cycles =
-      some_bind (CircuitIn held setting.signature net cycles) (TableReply setting) (some_circuit_in held bytes setting is_setting net cycles)
+      some_bind (CircuitIn held setting.signature net cycles) (TableReply setting) (some_circuit_in held setting.signature net cycles)
       (λ circuit of. table_reply setting circuit (taken_whole held bytes setting is_setting net cycles of.0 of.1 circuit of.2))
 
   pub some_table_answer : (net : Word) (cycles : ℕ) → HasOutcome (TableAnswer held setting net cycles)

@@ -12,8 +12,9 @@ use Rattle.answer_core.specs.Printed.{IsTaken}
 use Rattle.answer_core.specs.Simpler.{SimplerIn, SimplerOf, SimplerUnrolledIn}
 use Rattle.answer_core.proofs.SimplerLemmas.{simpler_long}
 use Rattle.answer_polynomials.proofs.EqualLemmas.{sound}
-use Rattle.answer_laws.specs.Outcomes.{HasOutcome}
-use Rattle.answer_laws.proofs.SomeCircuits.{simpler_of, some_circuit_in}
+use Rattle.job_laws.specs.HasOutcome.{HasOutcome}
+use Rattle.job_laws.proofs.CircuitExists.{some_circuit_in}
+use Rattle.answer_laws.proofs.SomeCircuits.{simpler_of}
 
 pub taken_bases : (setting : SettingValue) (circuit : BoundNet) → IsTaken setting circuit → length setting.bases ≡ length circuit.binding.words
 taken_bases setting circuit taken = simpler_long setting circuit (sound setting circuit taken) taken.netlist taken.cycles taken.simple taken.is_circuit
@@ -34,7 +35,7 @@ module _ (held : Option Files) (bytes : List ℕ) (setting : SettingValue) (is_s
 
   pub some_simpler_in : (simple : Bool) → HasOutcome (SimplerIn held setting.signature net cycles simple)
   some_simpler_in simple =
-      some_bind (CircuitIn held setting.signature net cycles) (SimplerOf simple) (some_circuit_in held bytes setting is_setting net cycles) (λ plain of. simpler_of held bytes setting is_setting net cycles of.0 of.1 simple plain of.2)
+      some_bind (CircuitIn held setting.signature net cycles) (SimplerOf simple) (some_circuit_in held setting.signature net cycles) (λ plain of. simpler_of held bytes setting is_setting net cycles of.0 of.1 simple plain of.2)
 
   pub taken_in : (simple : Bool) (circuit : BoundNet) → SimplerIn held setting.signature net cycles simple (Ok circuit) → IsTaken setting circuit
   taken_in simple circuit of = taken_from simple of.1.0 of.1.1 circuit (of.0, of.1.2, of.2)

@@ -31,7 +31,7 @@ use Rattle.compose_blocks.specs.Structure.{gate_refused, HasInstancesAlone}
 use Rattle.compose_blocks.specs.Uses.{BlockUse, IsUse, UseOf}
 use Rattle.compose_wiring.specs.private.Plain.{PlacedValue}
 use Rattle.block_compose.specs.Composed.{WiringOf}
-use Rattle.answer_laws.specs.Outcomes.{HasOutcome}
+use Rattle.job_laws.specs.HasOutcome.{HasOutcome}
 use Rattle.exist_laws.proofs.ListedExist.{listed}
 use Rattle.answer_laws.proofs.WiringExists.{some_wiring}
 

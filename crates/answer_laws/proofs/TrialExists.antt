@@ -1,4 +1,4 @@
--- Some reply or some fault comes of `trial`, where something comes of its modulus.
+-- Some reply or some fault comes of `trial`.
 use Rattle.std.proofs.Common.{refl, sym, subst, ap, ℕ, [], length, Option, None, Some}
 use Rattle.outcome.specs.Outcome.{Exactly, Within}
 use Rattle.outcome.proofs.SomeLemmas.{some_bind, some_exactly, some_within}
@@ -17,10 +17,11 @@ use Rattle.answer_core.specs.Abstraction.{taken_circuit, AbstractOf}
 use Rattle.answer_core.specs.Judged.{IsJudged}
 use Rattle.answer_makers.specs.Trial.{trial_reply, TermsOf, ToldApart, TrialAnswer, TrialBeside, TrialOver}
 use Rattle.answer_makers.proofs.TrialLemmas.{trial_apart, well_of_trial}
-use Rattle.answer_laws.specs.Outcomes.{HasOutcome}
+use Rattle.job_laws.specs.HasOutcome.{HasOutcome}
+use Rattle.job_laws.proofs.FieldExists.{some_field}
+use Rattle.exist_laws.proofs.SpecDecided.{spec_decided}
 use Rattle.answer_laws.proofs.CheckExists.{some_abstracted, some_judged}
 use Rattle.answer_laws.proofs.SomeStaged.{some_staged}
-use Rattle.exist_laws.proofs.SpecDecided.{spec_decided}
 
 -- ---- over the field of a modulus
 
@@ -59,7 +60,7 @@ module _ (degree modulus number bound : ℕ) (name : IsFieldModulus degree modul
   some_over : HasOutcome (TrialOver degree modulus number bound)
   some_over = some_bind (TermsOf setting circuit bound) (λ terms. TrialBeside setting circuit product_terms number bound terms) some_terms (λ terms may. some_beside terms)
 
-pub some_trial : (number modulus bound : ℕ) → HasOutcome (FieldOf modulus [] []) → HasOutcome (TrialAnswer number modulus bound)
-some_trial number modulus bound some =
-    some_bind (Within faults.Signature (FieldOf modulus [] [])) (λ field. TrialOver field.k modulus number bound) (some_within faults.Signature (FieldOf modulus [] []) some)
+pub some_trial : (number modulus bound : ℕ) → HasOutcome (TrialAnswer number modulus bound)
+some_trial number modulus bound =
+    some_bind (Within faults.Signature (FieldOf modulus [] [])) (λ field. TrialOver field.k modulus number bound) (some_within faults.Signature (FieldOf modulus [] []) (some_field modulus [] [] (λ none. refl)))
     (λ field named. let P : ℕ → Type 0 = λ d. HasOutcome (TrialOver d modulus number bound) in subst P (sym (ap (λ (f : FieldValue). f.k) named.1)) (some_over named.0.degree modulus number bound named.0.base))

@@ -32,7 +32,7 @@ use Rattle.compose_blocks.proofs.BlockLemmas.{found_block}
 use Rattle.reader_laws.specs.SoundModels.{AreSoundModels}
 use Rattle.reader_laws.proofs.BindingExists.{some_binding}
 use Rattle.reader_laws.proofs.FlatExists.{some_flat}
-use Rattle.answer_laws.specs.Outcomes.{HasOutcome}
+use Rattle.job_laws.specs.HasOutcome.{HasOutcome}
 use Rattle.answer_laws.proofs.ListExists.{some_for_each}
 
 -- ---- one block

@@ -22,7 +22,7 @@ use Rattle.compose_wiring.proofs.WiringLemmas.{only_left, plain_fault, plainly_w
 use Rattle.compose_wiring.proofs.WordsLemmas.{output_is}
 use Rattle.block_compose.specs.Composed.{WiringOf}
 use Rattle.reader_laws.proofs.DecidedLemmas.{both_decided, bytes_decided, tokens_decided}
-use Rattle.answer_laws.specs.Outcomes.{HasOutcome}
+use Rattle.job_laws.specs.HasOutcome.{HasOutcome}
 
 -- ---- the first candidate
 

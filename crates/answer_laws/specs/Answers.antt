@@ -1,12 +1,10 @@
 -- That something comes of each command over the setting of a signature's text, whatever the shelf holds. Source: this project's own.
-use Rattle.std.specs.Prelude.{ℕ, Bool, List, [], Option, Ok}
+use Rattle.std.specs.Prelude.{ℕ, Bool, List, Option, Ok}
 use Rattle.job_io.specs.Shelf.{Files}
 use Rattle.job_words.specs.Operands.{Word}
 use Rattle.job_words.specs.declared.kind.Kind.{Kind}
-use Rattle.job_input.specs.FieldOf.{FieldOf}
 use Rattle.job_input.specs.SettingOf.{SettingOf}
 use Rattle.job_input.specs.SettingValue.{SettingValue}
-use Rattle.job_input.specs.SignedIn.{SecondIn}
 use Rattle.answer_certificates.specs.Certify.{CertifyAnswer}
 use Rattle.answer_certificates.specs.Upgrade.{UpgradeAnswer}
 use Rattle.answer_certificates.specs.Verify.{VerifyAnswer}
@@ -21,7 +19,7 @@ use Rattle.answer_polynomials.specs.Same.{SameAnswer}
 use Rattle.answer_tables.specs.Iso.{IsoAnswer}
 use Rattle.answer_tables.specs.Lift.{LiftAnswer}
 use Rattle.answer_tables.specs.Table.{TableAnswer}
-use Rattle.answer_laws.specs.Outcomes.{HasOutcome}
+use Rattle.job_laws.specs.HasOutcome.{HasOutcome}
 
 -- it is so of each setting that a signature's text gives, and of whatever is held
 abbrev pub OverSettings : (Option Files → SettingValue → Type 0) → Type 0
@@ -75,10 +73,10 @@ HaveMakeAnswers = OverSettings (λ held setting. (kind : Kind) → HasOutcome (M
 abbrev pub HaveComposeAnswers : Type 0
 HaveComposeAnswers = OverSettings (λ held setting. (net : Word) (bound : ℕ) → HasOutcome (ComposeAnswer held setting net bound))
 
--- of `iso`, where a second signature or a fault comes of the file
+-- of `iso`
 abbrev pub HaveIsoAnswers : Type 0
-HaveIsoAnswers = OverSettings (λ held setting. (other : Word) → HasOutcome (SecondIn held other) → HasOutcome (IsoAnswer held setting.signature other))
+HaveIsoAnswers = OverSettings (λ held setting. (other : Word) → HasOutcome (IsoAnswer held setting.signature other))
 
--- and of `trial`, which reads no signature, where a field or a fault comes of its modulus
+-- and of `trial`, which reads no signature
 abbrev pub HaveTrialAnswers : Type 0
-HaveTrialAnswers = (number modulus bound : ℕ) → HasOutcome (FieldOf modulus [] []) → HasOutcome (TrialAnswer number modulus bound)
+HaveTrialAnswers = (number modulus bound : ℕ) → HasOutcome (TrialAnswer number modulus bound)

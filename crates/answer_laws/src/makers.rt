@@ -6,8 +6,7 @@ pub fn some_make_or_fault()
     ensures { HaveMakeAnswers }
 {}
 
-/// The input at which the turned multiplier and the product are told apart, or a fault, comes of `trial`, where a field or a fault comes of
-/// its modulus.
+/// The input at which the turned multiplier and the product are told apart, or a fault, comes of `trial`.
 pub fn some_trial_or_fault()
     ensures { HaveTrialAnswers }
 {}

@@ -1,4 +1,4 @@
--- The one answer that may come is the one that was written.
+-- The one answer that comes is the one that was written.
 use Rattle.std.proofs.Common.{◌≡◌, ◌⊎◌, refl, subst, inl, inr, ℕ, List, Option, None, Some, Result, Ok, Err}
 use Rattle.std.specs.Io.KnownBytes.{Appends, Keeps}
 use Rattle.job_io.specs.Shelf.{Files}
@@ -8,6 +8,7 @@ use Rattle.gf_abs.specs.Answer.{Answer}
 use Rattle.gf_abs.specs.Written.{IsText, Writes, WritesPart, IsWritten}
 use Rattle.job_words.specs.declared.fault.Fault.{Fault}
 use Rattle.gf_abs.proofs.AnswerDetermined.{answer_determined}
+use Rattle.gf_abs.proofs.AnswerExists.{some_answer}
 
 module _ (words : List Word) (files : Files) (old new : Option (List ℕ)) where
   same : (a b : Result Reply Fault) (status : ℕ) → Answer words (Some files) a → Answer words (Some files) b → IsWritten a status old new → IsWritten b status old new
@@ -40,3 +41,10 @@ answered words held missed status old new shelf_failed sink_failed (inl four) fa
 ]
 answered words held missed status old new shelf_failed sink_failed (inr (inl five)) failed files outcome told may shelf sink = inl five
 answered words held missed status old new shelf_failed sink_failed (inr (inr writes)) failed files outcome told may shelf sink = inr (written words files old new held missed status told writes outcome may)
+
+-- there is one, and so it was
+pub answer_written : (words : List Word) (held : Option Files) (missed : Type 0) (status : ℕ) (old new : Option (List ℕ)) (shelf_failed sink_failed : Type 0) → (status ≡ 4) ⊎ (status ≡ 5) ⊎ Writes (Answer words held) missed status old new → (status ≡ 4 → (shelf_failed × Keeps old new) ⊎ WritesPart (Answer words held) missed sink_failed old new)
+    → (files : Files) → held ≡ Some files → (outcome : Result Reply Fault) × Answer words (Some files) outcome × ((shelf_failed → ⊥) → (sink_failed → ⊥) → (status ≡ 5) ⊎ IsWritten outcome status old new)
+answer_written words held missed status old new shelf_failed sink_failed answers failed files told =
+    let some = some_answer words (Some files) in
+    (some.0, some.1, answered words held missed status old new shelf_failed sink_failed answers failed files some.0 told some.1)

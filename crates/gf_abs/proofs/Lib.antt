@@ -1,4 +1,5 @@
 pub mod AnswerDetermined
+pub mod AnswerExists
 pub mod OneLineLemmas
 pub mod StatusLemmas
 pub mod CompleteLemmas
@@ -18,4 +19,3 @@ pub mod TrialHeadlineLemmas
 pub mod RunLemmas
 pub mod RefusalLemmas
 pub mod OtherRefusalLemmas
-pub mod SomeAnswerLemmas

@@ -1,5 +1,5 @@
 -- Each fault that may come is one line.
-use Rattle.std.proofs.Common.{◌≡◌, inl, inr, refl, subst, sym, ℕ, Bool, List, [], length, Option, Some, Ok, Err, arith}
+use Rattle.std.proofs.Common.{◌≡◌, inl, inr, refl, subst, sym, ℕ, Bool, List, length, Option, Some, Ok, Err}
 use Rattle.std.specs.Prelude.{codes, decimal}
 use Rattle.outcome.specs.Outcome.{Within}
 use Rattle.job_io.specs.Shelf.{Files}

@@ -1,5 +1,5 @@
 -- When `trial`, `verify` and `compose` are refused, and when they stop; and which commands never stop.
-use Rattle.std.proofs.Common.{◌≡◌, ◌⊎◌, ◌∙◌, ap, refl, subst, sym, inl, inr, ℕ, ◌*◌, ◌^◌, List, [], Option, Some, Ok, Err, ◌↔◌, length, arith}
+use Rattle.std.proofs.Common.{◌≡◌, ◌∙◌, ap, refl, subst, sym, inl, inr, ℕ, ◌*◌, ◌^◌, List, [], Option, Some, Ok, Err, ◌↔◌, length, arith}
 use Rattle.outcome.specs.Outcome.{Within}
 use Rattle.lists.specs.laws.OptionLaws.{same_some}
 use Rattle.job_io.specs.Shelf.{Files}

@@ -1,17 +1,19 @@
 -- What the program answers to its words, over the files that the shelf holds: the table of commands. Source: this project's own.
-use Rattle.std.specs.Prelude.{◌≡◌, ℕ, List, Option, Ok, Err}
+use Rattle.std.specs.Prelude.{ℕ, List, Option}
 use Rattle.outcome.specs.Outcome.{Outcome, ◌>>=◌, Within}
 use Rattle.net_signature.specs.Signature.{SignatureValue}
 use Rattle.job_io.specs.Shelf.{Files}
 use Rattle.job_words.specs.declared.fault.Fault.{Fault}
-use Rattle.job_words.specs.declared.fault.Fault.TheVariants.{Words, Signature}
+use Rattle.job_words.specs.declared.fault.Fault.TheVariants.{Signature}
 use Rattle.job_words.specs.declared.command.Command.{Command}
 use Rattle.job_words.specs.declared.command.Task.{Task}
 use Rattle.job_words.specs.Operands.{Word}
-use Rattle.job_words.specs.Command.{Action, Bits, Abstract, Check, Same, Eval, Iso, Lift, Table, Certify, Verify, Upgrade, Make, Compose, Job, Over, Trial, IsSpelled, action_of, spelled_job}
+use Rattle.job_words.specs.Command.{Action, Bits, Abstract, Check, Same, Eval, Iso, Lift, Table, Certify, Verify, Upgrade, Make, Compose, Job, Over, Trial, action_of, spelled_job}
 use Rattle.job_input.specs.SettingOf.{SignedValue, SettingWith}
 use Rattle.job_input.specs.SettingValue.{SettingValue}
 use Rattle.job_input.specs.SignedIn.{SignedIn}
+use Rattle.job_laws.specs.HasOutcome.{HasOutcome}
+pub use Rattle.job_laws.specs.Spelled.{Spelled}
 use Rattle.answer_core.specs.Reply.{Reply}
 use Rattle.answer_polynomials.specs.Bits.{BitsAnswer}
 use Rattle.answer_polynomials.specs.Abstract.{AbstractAnswer}
@@ -27,11 +29,6 @@ use Rattle.answer_certificates.specs.Upgrade.{UpgradeAnswer}
 use Rattle.answer_makers.specs.Make.{MakeAnswer}
 use Rattle.answer_composition.specs.Compose.{ComposeAnswer}
 use Rattle.answer_makers.specs.Trial.{TrialAnswer}
-
--- the command of the words, or fault 01 where they spell none
-abbrev pub Spelled : List Word → Outcome Fault Job
-Spelled words (Ok job) = IsSpelled words job
-Spelled words (Err fault) = (fault ≡ Words) × ((job : Job) → IsSpelled words job → ⊥)
 
 -- what comes of a command after its signature was taken
 abbrev pub ActionAnswer : Option Files → SettingValue → Action → Outcome Fault Reply
@@ -67,6 +64,10 @@ abbrev pub Answer : List Word → Option Files → Outcome Fault Reply
 Answer words held = do
   job ← Spelled words
   JobAnswer held job
+
+-- to all words there is one, a reply or a fault, whatever is held
+abbrev pub HaveAnswers : Type 0
+HaveAnswers = (words : List Word) (held : Option Files) → HasOutcome (Answer words held)
 
 -- ---- the same of the program's own values, for the clauses of private functions
 

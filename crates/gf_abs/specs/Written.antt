@@ -1,5 +1,5 @@
 -- What the program wrote of an answer. Source: this project's own.
-use Rattle.std.specs.Prelude.{◌≡◌, ◌⊎◌, ◌<◌, ℕ, List, length, take, Option, Result, Ok, Err}
+use Rattle.std.specs.Prelude.{◌≡◌, ◌⊎◌, ◌<◌, ℕ, List, length, take, Option, Some, Result, Ok, Err}
 use Rattle.std.specs.Io.KnownBytes.{Appends, Keeps}
 use Rattle.outcome.specs.Outcome.{Outcome}
 use Rattle.job_io.specs.Shelf.{Files}
@@ -53,3 +53,9 @@ OutsideFailed words held misses faults old new refusals written before after =
 abbrev pub IsWrittenUnlessFailed : {S K : Type 0} → (faults : S → ℕ) (old new : S) → (refusals : K → ℕ) (written : K → Option (List ℕ)) (before after : K) → Result Reply Fault → (status : ℕ) → Type 0
 IsWrittenUnlessFailed faults old new refusals written before after outcome status =
     (Rises faults old new → ⊥) → (Rises refusals before after → ⊥) → (status ≡ 5) ⊎ IsWritten outcome status (written before) (written after)
+
+-- where the shelf tells what it holds, an answer or a fault comes of the words, and it was written whole, unless the outside or memory
+-- failed
+abbrev pub WritesItsAnswer : {S K : Type 0} → List Word → (held : S → Option Files) (faults : S → ℕ) (old new : S) → (refusals : K → ℕ) (written : K → Option (List ℕ)) (before after : K) → (status : ℕ) → Type 0
+WritesItsAnswer words held faults old new refusals written before after status =
+    (files : Files) → held old ≡ Some files → (outcome : Result Reply Fault) × Answer words (Some files) outcome × IsWrittenUnlessFailed faults old new refusals written before after outcome status

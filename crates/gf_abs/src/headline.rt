@@ -16,7 +16,7 @@ ghost use Rattle.job_input.specs.SettingValue.{SettingValue};
 ghost use Rattle.answer_core.specs.Abstraction.{taken_circuit};
 ghost use Rattle.answer_core.specs.Printed.{IsTaken, AreHeld, PrintsHeld, PrintsHeldInBits, IsInItsBits, IsInItsWords, HasOutput, HasOutputInBits};
 ghost use Rattle.answer_core.specs.Reply.{Reply};
-ghost use Rattle.gf_abs.specs.Answer.{Answer};
+ghost use Rattle.gf_abs.specs.Answer.{Answer, HaveAnswers};
 ghost use Rattle.gf_abs.specs.CertificateHeadline.{AnswersTermsLeft, CertificatesAreAccepted, EachCertifyReply, EachUpgradeReply, EachVerify, EachVerifyReply, HoldLastSum, HoldTermsLeft, IsAccepted, IsRejected, PrintsHeldClaim, PrintsHeldProof, PrintsTheSamePairs, UpgradesHaveTheSameReply};
 ghost use Rattle.gf_abs.specs.CheckHeadline.{AnswersCheck, ChecksHeld, EachCheckReply, PrintsHeldAcceptance, PrintsHeldRejection};
 ghost use Rattle.gf_abs.specs.ComposeHeadline.{ComposePrintsAsAbstract, EachComposeReply};
@@ -35,6 +35,11 @@ pub fn one_answer_or_fault()
 /// At most one answer or fault comes of a trial, which reads no file, whatever the shelf tells.
 pub fn one_answer_to_a_trial()
     ensures { (words : List Word) (held : Option Files) (number modulus bound : ℕ) → IsSpelled words (Trial number modulus bound) → Determined (Answer words held) }
+{}
+
+/// To all words there is an answer, a reply or a fault, whatever the shelf holds, and also where it does not tell what it holds.
+pub fn some_answer_or_fault()
+    ensures { HaveAnswers }
 {}
 
 /// A reply has status 0 or 1. A fault, which has status 2 or 3, is one line: its text ends with its only line feed, whatever

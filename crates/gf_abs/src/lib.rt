@@ -16,10 +16,11 @@ pub use headline::{
     equal_bits_exactly_if_equal_functions, equal_bytes_exactly_if_equal_functions,
     equal_bytes_with_and_without_simplify, eval_prints_the_output, held_files_give_one_job,
     iso_prints_the_images, lift_prints_the_polynomial, one_answer_or_fault, one_answer_to_a_trial,
-    same_exactly_if_equal_functions, same_prints_the_differing_input, table_prints_the_outputs,
-    tables_are_lifted_to_what_abstract_prints, trial_prints_the_differing_input,
-    upgrade_keeps_claim_and_pairs, upgrade_keeps_the_reply, verify_answers_by_the_last_sum,
-    verify_proves_the_output, what_certify_prints_is_accepted, what_make_prints_computes,
+    same_exactly_if_equal_functions, same_prints_the_differing_input, some_answer_or_fault,
+    table_prints_the_outputs, tables_are_lifted_to_what_abstract_prints,
+    trial_prints_the_differing_input, upgrade_keeps_claim_and_pairs, upgrade_keeps_the_reply,
+    verify_answers_by_the_last_sum, verify_proves_the_output, what_certify_prints_is_accepted,
+    what_make_prints_computes,
 };
 pub use program::{run, run_surely};
 pub use refusals::{

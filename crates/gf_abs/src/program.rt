@@ -5,7 +5,7 @@ ghost use Rattle.job_io.specs.SureShelf.{sure_files, sure_misses};
 ghost use Rattle.job_input.specs.Reads.{Rises};
 ghost use Rattle.gf_abs.specs.Answer.{Answer};
 ghost use Rattle.gf_abs.specs.RunHeadline.{AbstractPrints, BitsPrints, CertifyPrints, CheckAccepts, CheckRejects, ComposePrints, EvalPrints, IsoPrints, LiftPrints, MakePrints, SameAgrees, SameDiffers, TablePrints, TrialPrints, UpgradePrints, VerifyLeavesTerms, VerifyProves};
-ghost use Rattle.gf_abs.specs.Written.{IsText, IsWrittenUnlessFailed, OutsideFailed, WritesWhole};
+ghost use Rattle.gf_abs.specs.Written.{IsText, IsWrittenUnlessFailed, OutsideFailed, WritesItsAnswer, WritesWhole};
 
 use crate::top::write_answer;
 use job_io::{Shelf, Sink, SureShelf, SureSink};
@@ -20,8 +20,10 @@ pub fn run<S: Shelf, K: Sink>(alloc: Global, words: &[String], shelf: &mut S, si
     ensures failed { result ≡ 4 → OutsideFailed (map string_bytes words.now) S.held S.misses S.faults shelf.old shelf.new K.faults K.written sink.old sink.new }
     ensures no_memory { result ≡ 5 → Keeps (K.written sink.old) (K.written sink.new) }
 
-    // Where the shelf tells what it holds, the answer or fault that comes of the words, of which there is one at most, was
-    // written whole, unless the outside or memory fails.
+    // Where the shelf tells what it holds, an answer or a fault comes of the words, and it was written whole, unless the outside or
+    // memory fails.
+    ensures answered { WritesItsAnswer (map string_bytes words.now) S.held S.faults shelf.old shelf.new K.faults K.written sink.old sink.new result }
+    // There is one at most: so it is with each that comes of the words.
     ensures complete { (files : _) (outcome : _) → S.held shelf.old ≡ Some files → Answer (map string_bytes words.now) (Some files) outcome
         → IsWrittenUnlessFailed S.faults shelf.old shelf.new K.faults K.written sink.old sink.new outcome result }
 

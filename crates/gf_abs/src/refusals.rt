@@ -66,9 +66,8 @@ pub fn each_command_is_refused_in_order()
     ensures status { OfActions (λ held words signature action fault. HasNoStages action → Answer words held (Err fault) → fault_status fault ≡ 2) }
 {}
 
-/// Where nothing that `bits`, `abstract`, `same`, `eval`, `table` or `lift` reads is refused, it has an answer: a polynomial, or the first
-/// stage over the bound; of `same` that the outputs are the same, or the input at which they are told apart, or a stage; of `eval` an
-/// output, of `table` a table, of `lift` a polynomial. So it is with `--simplify` too.
+/// Where nothing that `bits`, `abstract`, `same`, `eval`, `table` or `lift` reads is refused, it has an answer, with `--simplify` or
+/// without it. So have all words (`some_answer_or_fault`); when the answer is a fault, the laws above say.
 pub fn some_answer_over_a_circuit()
     ensures in_bits { OfBits (λ held words signature net bound cycles simple. Reads held signature (CircuitGiven held net cycles) → HasAnswer words held) }
     ensures in_words { OfAbstract (λ held words signature net bound cycles simple. Reads held signature (CircuitGiven held net cycles) → HasAnswer words held) }

@@ -10,7 +10,7 @@ use Rattle.job_words.specs.Shapes.{AreValues, IsOverBlif, IsOverFile, IsOverFile
 use Rattle.reader_laws.proofs.DecidedLemmas.{IsDecided, moved_decided, one_decided, tokens_decided}
 use Rattle.reader_laws.proofs.SignatureWords.{after_keyword}
 use Rattle.job_laws.specs.HasOutcome.{HasOutcome}
-use Rattle.job_laws.specs.Spelled.{SpelledBy}
+use Rattle.job_laws.specs.Spelled.{Spelled}
 use Rattle.job_laws.proofs.CircuitOptionDecided.{circuit_options_decided, values_decided}
 use Rattle.job_laws.proofs.OptionDecided.{cycles_option_decided, options_decided, terms_option_decided}
 use Rattle.job_laws.proofs.ShapeDecided.{blif_file_decided, file_decided, files_decided, made_decided, trial_decided}
@@ -160,5 +160,5 @@ module _ (words : List Word) where
   pub spelled_decided : IsDecided SpellsOne
   spelled_decided = moved_decided of_form (λ is. to_form is.0 is.1) form_decided
 
-pub some_job : (words : List Word) → HasOutcome (SpelledBy words)
+pub some_job : (words : List Word) → HasOutcome (Spelled words)
 some_job words = elim (spelled_decided words) [ inl is ↦ (Ok is.0, is.1) | inr none ↦ (Err Words, (refl, λ job is. none (job, is))) ]

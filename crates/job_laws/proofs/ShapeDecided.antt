@@ -1,5 +1,5 @@
 -- Whether words behind the name of a command are its files with what follows them, a kind with its signature, or those of a trial.
-use Rattle.std.proofs.Common.{◌≡◌, sym, refl, subst, inl, inr, ℕ, List, [], ◌∷◌}
+use Rattle.std.proofs.Common.{◌≡◌, sym, refl, subst, inr, ℕ, List, [], ◌∷◌}
 use Rattle.job_words.specs.declared.kind.Kind.{Kind}
 use Rattle.job_words.specs.Kind.{kind_name}
 use Rattle.job_words.specs.MadeWords.{AreTrialWords, IsOfKind, IsTrialNumber, IsValueOf}

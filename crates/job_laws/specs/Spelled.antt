@@ -7,6 +7,6 @@ use Rattle.job_words.specs.Operands.{Word}
 use Rattle.job_words.specs.Command.{Job, IsSpelled}
 
 -- the command that the words spell, or fault 01 where they spell none
-abbrev pub SpelledBy : List Word → Outcome Fault Job
-SpelledBy words (Ok job) = IsSpelled words job
-SpelledBy words (Err fault) = (fault ≡ Words) × ((job : Job) → IsSpelled words job → ⊥)
+abbrev pub Spelled : List Word → Outcome Fault Job
+Spelled words (Ok job) = IsSpelled words job
+Spelled words (Err fault) = (fault ≡ Words) × ((job : Job) → IsSpelled words job → ⊥)

@@ -1,8 +1,13 @@
 use Rattle.std.proofs.Common.{map, string_bytes}
 use Rattle.job_io.specs.Counts.{Rose}
-use Rattle.gf_abs.proofs.CompleteLemmas.{answered}
+use Rattle.gf_abs.proofs.CompleteLemmas.{answer_written, answered}
 use Rattle.gf_abs.proofs.RunLemmas.{abstract_written, accepted_written, bits_written, certificate_written, composed_written, difference_written, element_written, images_written, lift_written, made_written, proof_written, rejected_written, same_written, table_written, terms_left_written, trial_written, upgrade_written}
 use Rattle.gf_abs.proofs.program.run.Goals as goal
+
+pub returns-clause-answered : goal.returns-clause-answered
+returns-clause-answered g c =
+    answer_written (map string_bytes c.args.words.now) (g.S.Shelf.held c.args.shelf.now) (Rose (g.S.Shelf.misses c.args.shelf.now) (g.S.Shelf.misses c.write_answer.new.shelf)) c.write_answer.result (g.K.Sink.written c.args.sink.now) (g.K.Sink.written c.write_answer.new.sink)
+    (Rose (g.S.Shelf.faults c.args.shelf.now) (g.S.Shelf.faults c.write_answer.new.shelf)) (Rose (g.K.Sink.faults c.args.sink.now) (g.K.Sink.faults c.write_answer.new.sink)) c.write_answer.ensures.answers c.write_answer.ensures.failed
 
 pub returns-clause-complete : goal.returns-clause-complete
 returns-clause-complete g c =
