@@ -84,9 +84,9 @@ class Reader:
             return False
         if word == b'let':
             number, rest = self.decimal(rest)
-            polynomial = self.polynomial(self.taken(rb':', rest)[1])
             if number != len(self.shared):
                 raise Wrong('syntax')
+            polynomial = self.polynomial(self.taken(rb':', rest)[1])
             self.shared.append(polynomial)
             return True
         generator, rest = self.net(rest) if word == b'net' else self.bit(rest)
