@@ -19,9 +19,9 @@ fn has_bits(ranks: &[u32], rows: &[Row], index: usize, i: usize) -> bool
     }
 }
 
-// The first place of a table in which a row of this hash is looked for.
+// The first place of a table in which a row of this hash is looked for, with room behind it for all looks.
 fn first_look(table: &[usize], hash: u64) -> usize {
-    (hash >> 32) as usize % table.len().max(1)
+    (hash >> 32) as usize % table.len().saturating_sub(LOOKS).max(1)
 }
 
 // The index of a row with the bits of that at another index, if a few looks into the table find it. The table has at its
@@ -117,7 +117,9 @@ pub fn merge_rows(alloc: Global, ranks: &[u32], rows: &mut Vec<Row>) -> Result<(
     ensures merged { OnOk result (AreMerged ranks.now rows.old.items rows.new.items) }
     ensures kept { OnErr result (rows.new.items ≡ rows.old.items) }
 {
-    let mut table = vec![in alloc; 0; rows.len().saturating_mul(2)]?;
+    // A quarter full, so that at most a few looks are wanted, and a sum of as many terms as the bound is seen to be within it.
+    let size = rows.len().saturating_mul(4).saturating_add(LOOKS);
+    let mut table = vec![in alloc; 0; size]?;
     add_up(ranks, rows.as_mut_slice(), table.as_mut_slice());
     rows.retain(|row| row.coefficient != 0);
     Ok(())
