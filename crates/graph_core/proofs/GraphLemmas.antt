@@ -1,10 +1,8 @@
 -- Edges of a graph that was changed.
-use Rattle.std.proofs.Common.{◌≡◌, ◌≢◌, ap, sym, refl, inl, inr, subst, ℕ, zero, suc, ◌<◌, ◌≤◌, ◌+◌, List, [], ◌∷◌, ◌++◌, length, length-set, ◌^◌, replicate, Option, None, Some, arith}
+use Rattle.std.proofs.Common.{◌≡◌, ◌≢◌, ap, sym, refl, inl, inr, subst, ℕ, zero, suc, ◌<◌, List, [], ◌∷◌, length, length-set, replicate, Option, None, Some, arith}
 use Rattle.std.specs.Prelude.{slice_get, All, IfSome}
 use Rattle.std.proofs.Math.ListN.{set}
-use Rattle.std.proofs.lemmas.List.{length-replicate}
 use Rattle.lists.specs.laws.HasLaws.{All_has}
-use Rattle.lists.specs.laws.ListLaws.{replicate_more}
 use Rattle.lists.specs.laws.NumberLaws.{nat_eq_or}
 use Rattle.graph_core.specs.Graph.{Graph, edges, IsInside}
 
@@ -46,22 +44,6 @@ inside_set graph from to less all inside a b (k, got) =
       | inr other ↦ inside a b (k, subst P (edges_set_other graph from to a other) got)
     ] in
     omega (arith, length-set graph from to)
-
--- one more point without edges
-pub none_more : (graph : Graph) (n : ℕ) (row : List ℕ) → graph ≡ replicate n [] → row ≡ [] → graph ++ row ∷ [] ≡ replicate (n + 1) []
-none_more graph n row is none =
-    let e : n + 1 ≡ suc n = omega arith in rw (is, none, e) (replicate_more [] n)
-
-pub none_fits : (graph : Graph) (n : ℕ) → graph ≡ replicate n [] → n ≤ 2 ^ 32 → IsInside graph × (length graph ≤ 2 ^ 32)
-none_fits graph n is few =
-    let P : Graph → Type 0 = λ g. IsInside g × (length g ≤ 2 ^ 32) in
-    subst P (sym is) (inside_none n, rw (length-replicate {A = List ℕ} n []) few)
-
-pub set_fits : (graph old : Graph) (from : ℕ) (to row : List ℕ) → graph ≡ old → row ≡ to → from < length old → All (λ a. a < length old) to → IsInside graph × (length graph ≤ 2 ^ 32) → IsInside (set graph from row) × (length (set graph from row) ≤ 2 ^ 32)
-set_fits graph old from to row same is less all fits =
-    let P : Graph → Type 0 = λ g. (from < length g) × All (λ a. a < length g) to in
-    let here : P graph = subst P (sym same) (less, all) in
-    rw is (inside_set graph from to here.0 here.1 fits.0, rw (length-set graph from to) fits.1)
 
 pub some_inside : (graph : Graph) (a k : ℕ) (r : Option ℕ) → IsInside graph → r ≡ slice_get (edges graph a) k → IfSome r (λ to. to < length graph)
 some_inside graph a k None inside is = tt

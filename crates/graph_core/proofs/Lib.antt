@@ -1,5 +1,6 @@
 pub mod SharedLemmas
 pub mod GraphLemmas
+pub mod RowLemmas
 pub mod GroundLemmas
 pub mod LawLemmas
 pub mod LoopLemmas

@@ -1,5 +1,5 @@
 -- The steps of a walk in depth.
-use Rattle.std.proofs.Common.{◌≡◌, ◌∙◌, ap, sym, refl, inl, inr, ℕ, ◌<◌, ◌≤◌, ◌+◌, ◌^◌, List, [], ◌∷◌, ◌++◌, length, None, Some, arith, below_more, ◌-◌, length-set}
+use Rattle.std.proofs.Common.{◌≡◌, ◌∙◌, ap, sym, refl, inl, inr, ℕ, zero, suc, ◌<◌, ◌≤◌, ◌+◌, ◌^◌, List, [], ◌∷◌, ◌++◌, length, replicate, None, Some, arith, below_more, ◌-◌, length-set}
 use Rattle.std.proofs.lemmas.Option.{slice_get_within}
 use Rattle.std.specs.Prelude.{slice_get}
 use Rattle.std.proofs.Math.ListN.{set}
@@ -8,7 +8,7 @@ use Rattle.lists.specs.laws.NumberLaws.{nat_eq_or}
 use Rattle.lists.specs.laws.ReadLaws.{got_push, get_front, get_here, got_set, get_set_other, get_set_same, get_none}
 use Rattle.lists.specs.laws.SumLaws.{sum_by-set_at, sum_by-push}
 use Rattle.graph_core.specs.Graph.{Graph, edges, HasEdge, IsReached}
-use Rattle.graph_core.specs.Walking.{IsWalking, AreUnseen, IsMet, KeepsMet, MetAreReached, StartsAt, LeadsBelow, weight, unseen, work}
+use Rattle.graph_core.specs.Walking.{IsWalking, AreDone, AreUnseen, IsDone, IsMet, KeepsMet, MetAreReached, StartsAt, LeadsBelow, weight, unseen, work}
 use Rattle.graph_core.specs.declared.walk.Mark.{Mark}
 use Rattle.graph_core.specs.declared.walk.Mark.TheVariants.{Unseen, Open, Done}
 use Rattle.graph_core.specs.declared.walk.Frame.{Frame}
@@ -124,6 +124,29 @@ left graph marks front f order walk past =
       links = λ j g h first second. walk.links j g h (get_front front (f ∷ []) j g first) (get_front front (f ∷ []) (j + 1) h second);
     }
 
+-- a point that was not met, and that leads to points that are done, is done
+pub finished : (graph : Graph) (marks : List Mark) (order : List ℕ) (point : ℕ) → IsWalking graph marks [] order → slice_get marks point ≡ Some Unseen → AreDone marks (edges graph point) → IsWalking graph (set marks point (Done (length order))) [] (order ++ point ∷ [])
+finished graph marks order point walk unseen are =
+    let count : ℕ = length order in
+    let kept : (t r : ℕ) → slice_get marks t ≡ Some (Done r) → slice_get (set marks point (Done count)) t ≡ Some (Done r) = λ t r done. get_set_other marks point (Done count) t (Done r) (λ same. let e : slice_get marks point ≡ Some (Done r) = rw (← same) done in cc) done in
+    record {
+      long = length-set marks point (Done count) ∙ walk.long;
+      done = λ p rank got. elim (got_set marks point (Done count) p (Done rank) got) [
+        | inl w ↦ let here : rank ≡ count = cc w.1 in rw (w.0, here) (get_here order point [], λ k t below got'. let old = are k t got' in (old.0, kept t old.0 old.1, slice_get_within order old.0 t (walk.done t old.0 old.1).0))
+        | inr w ↦ let old = walk.done p rank w.1 in (get_front order (point ∷ []) rank p old.0, leads_kept graph marks _ p _ rank rank kept (omega arith) old.1)
+      ];
+      ordered = λ place p got. elim (got_push order point place p got) [
+        | inl w ↦ kept p place (walk.ordered place p w.0)
+        | inr w ↦ rw (w.1, w.0) (get_set_same marks point Unseen (Done count) unseen)
+      ];
+      frames = λ j g got. absurd (cc);
+      open_at = λ p j is. elim (got_set marks point (Done count) p (Open j) is) [
+        | inl w ↦ absurd (cc w.1)
+        | inr w ↦ let old = walk.open_at p j w.1 in let e = old.1 in absurd (cc)
+      ];
+      links = λ j g h first second. absurd (cc);
+    }
+
 -- a walk begins at a root that was not met
 pub begun : (graph : Graph) (marks : List Mark) (order : List ℕ) (root : ℕ) → IsWalking graph marks [] order → slice_get marks root ≡ Some Unseen → IsWalking graph (set marks root (Open 0)) (record { point = root; next = 0 } ∷ []) order
 begun graph marks order root walk unseen =
@@ -184,8 +207,19 @@ work_next marks front f small = omega (arith, sum_by-push steps_left front f, su
 pub work_down : (marks : List Mark) (front : List Frame) (f : Frame) (to n : ℕ) → slice_get marks to ≡ Some Unseen → work (set marks to (Open n)) ((front ++ f ∷ []) ++ record { point = to; next = 0 } ∷ []) < work marks (front ++ f ∷ [])
 work_down marks front f to n is = omega (arith, sum_by-set_at weight marks to Unseen (Open n) is, sum_by-push steps_left (front ++ f ∷ []) (record { point = to; next = 0 }))
 
-pub unseen_more : (marks : List Mark) → AreUnseen marks → AreUnseen (marks ++ Unseen ∷ [])
-unseen_more marks each = λ point mark got. elim (got_push marks Unseen point mark got) [ inl w ↦ each point mark w.0 | inr w ↦ w.1 ]
+-- marks that are all the same
+pub all_unseen : (n : ℕ) → AreUnseen (replicate n Unseen)
+all_unseen zero point mark got = absurd (cc)
+all_unseen (suc n) zero mark got = cc
+all_unseen (suc n) (suc point) mark got = all_unseen n point mark got
+
+-- one more point is done
+pub done_more : (marks : List Mark) (points : List ℕ) (i point : ℕ) → slice_get points i ≡ Some point → IsDone marks point → ((k to : ℕ) → k < i → slice_get points k ≡ Some to → IsDone marks to) → (k to : ℕ) → k < i + 1 → slice_get points k ≡ Some to → IsDone marks to
+done_more marks points i point here is so_far k to less got =
+    below_more (λ k. (to : ℕ) → slice_get points k ≡ Some to → IsDone marks to) i
+    (λ k less to got. so_far k to less got)
+    (λ to got. let same : point ≡ to = cc in rw (← same) is)
+    k less to got
 
 pub starts_alone : (root : ℕ) → StartsAt root (record { point = root; next = 0 } ∷ [])
 starts_alone root f got = let f' : Frame = record { point = root; next = 0 } in let same : f' ≡ f = cc in sym (ap (λ (x : Frame). x.point) same)

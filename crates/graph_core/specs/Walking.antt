@@ -10,6 +10,13 @@ use Rattle.graph_core.specs.declared.walk.Frame.{Frame}
 abbrev pub LeadsBelow : Graph → List Mark → ℕ → ℕ → ℕ → Type 0
 LeadsBelow graph marks point next place = (k to : ℕ) → k < next → slice_get (edges graph point) k ≡ Some to → (r : ℕ) × (slice_get marks to ≡ Some (Done r)) × (r < place)
 
+-- the point is done
+abbrev pub IsDone : List Mark → ℕ → Type 0
+IsDone marks point = (r : ℕ) × (slice_get marks point ≡ Some (Done r))
+
+abbrev pub AreDone : List Mark → List ℕ → Type 0
+AreDone marks points = (k to : ℕ) → slice_get points k ≡ Some to → IsDone marks to
+
 -- The stack leads from its bottom to its top; points that were left are done and stand in the order.
 pub record IsWalking (graph : Graph) (marks : List Mark) (stack : List Frame) (order : List ℕ) : Type 0 where
   pub long : length marks ≡ length graph

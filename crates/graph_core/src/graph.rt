@@ -1,68 +1,51 @@
 //! Graphs.
-ghost use Rattle.std.specs.Prelude.{◌≡◌, ◌<◌, ◌≤◌, ◌^◌, [], ℕ, All, IfOk, OnOk, OnErr, length, replicate, slice_set};
+ghost use Rattle.std.specs.Prelude.{◌≡◌, ◌<◌, ◌≤◌, ◌^◌, [], ℕ, Some, All, IfOk, OnOk, OnErr, length, replicate, slice_get, slice_set};
 ghost use Rattle.graph_core.specs.Graph.{edges, IsInside};
 
-use smallvec::SmallVec;
 use std::alloc::{AllocError, Global};
 use std::marker::Model;
 
-// The points to which a point leads.
-#[derive(Drop)]
+// Where the points stand to which a point leads: from `start` on, and before `end`.
+#[derive(Clone, Copy)]
 struct Row {
-    points: SmallVec<u32, 6>,
-}
-
-impl Model for Row {
-    ghost use Rattle.std.specs.Prelude.{List, ℕ};
-
-    ghost Value = { List ℕ };
-
-    ghost view = { λ row. row.points.items };
-}
-
-impl Row {
-    // No points.
-    fn new(alloc: Global) -> Row
-        ensures { result ≡ [] }
-    {
-        Row {
-            points: SmallVec::new(alloc),
-        }
-    }
-
-    // These points.
-    fn of(alloc: Global, points: &[u32]) -> Result<Row, AllocError>
-        ensures { IfOk result (λ row. row ≡ points.now) }
-    {
-        Ok(Row {
-            points: SmallVec::from_slice(alloc, points)?,
-        })
-    }
-
-    fn as_slice(&self) -> &[u32]
-        ensures { result.now ≡ self.now }
-    {
-        self.points.as_slice()
-    }
+    start: usize,
+    end: usize,
 }
 
 /// A graph: for each point, by its number, the points to which its edges lead, in order.
-/// Contracts see it as the list of these lists.
+/// Contracts see it as the list of these lists. They stand one after another in one list, as they were set.
 #[derive(Drop)]
 pub struct Graph {
-    alloc: Global,
     rows: Vec<Row>,
+    heads: Vec<u32>,
 }
 
 impl Model for Graph {
-    ghost use Rattle.std.specs.Prelude.{length, ◌≤◌, ◌^◌};
-    ghost use Rattle.graph_core.specs.Graph.{Graph as GraphValue, IsInside};
+    ghost use Rattle.graph_core.specs.Graph.{Graph as GraphValue};
+    ghost use Rattle.graph_core.specs.Rows.{rows_in, AreRowsOfGraph};
 
     ghost Value = { GraphValue };
 
-    ghost view = { λ graph. graph.rows.items };
+    ghost view = { λ graph. rows_in graph.heads.items graph.rows.items };
 
-    ghost invariant = { λ graph. IsInside graph.rows.items × (length graph.rows.items ≤ 2 ^ 32) };
+    ghost invariant = { λ graph. AreRowsOfGraph graph.heads.items graph.rows.items };
+}
+
+// So many rows without points.
+fn empty_rows(alloc: Global, count: usize) -> Result<Vec<Row>, AllocError>
+    ensures { IfOk result (λ rows. rows.items ≡ replicate count (record { start = 0; end = 0 })) }
+{
+    let mut rows = Vec::new(alloc);
+    rows.resize(count, Row { start: 0, end: 0 })?;
+    Ok(rows)
+}
+
+// The row of a point.
+fn row_of(rows: &[Row], point: usize) -> Row
+    requires { point < length rows.now }
+    ensures { slice_get rows.now point ≡ Some result }
+{
+    rows[point]
 }
 
 impl Graph {
@@ -70,11 +53,11 @@ impl Graph {
     pub fn new(alloc: Global, points: u32) -> Result<Graph, AllocError>
         ensures { IfOk result (λ graph. graph ≡ replicate points []) }
     {
-        let mut rows = Vec::new(alloc);
-        for _ in 0..points {
-            rows.push(Row::new(alloc))?;
-        }
-        Ok(Graph { alloc, rows })
+        let rows = empty_rows(alloc, points as usize)?;
+        Ok(Graph {
+            rows,
+            heads: Vec::new(alloc),
+        })
     }
 
     /// Lets a point lead to these points, in this order, and to no others; all are points of the graph.
@@ -84,7 +67,10 @@ impl Graph {
         ensures made { OnOk result (self.new ≡ slice_set self.old from to.now) }
         ensures unchanged { OnErr result (self.new ≡ self.old) }
     {
-        let row = Row::of(self.alloc, to)?;
+        let start = self.heads.len();
+        self.heads.extend_from_slice(to)?;
+        let end = self.heads.len();
+        let row = Row { start, end };
         self.rows[from as usize] = row;
         Ok(())
     }
@@ -104,6 +90,7 @@ impl Graph {
         ensures edges { result.now ≡ edges self.now from }
         ensures inside { IsInside self.now }
     {
-        self.rows[from as usize].as_slice()
+        let Row { start, end } = row_of(&self.rows, from as usize);
+        &self.heads[start..end]
     }
 }

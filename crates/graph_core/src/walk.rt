@@ -1,10 +1,10 @@
 //! A walk in depth, with a stack of its own, which puts points in an order or finds a cycle.
-ghost use Rattle.std.specs.Prelude.{◌≡◌, ◌<◌, ◌≤◌, ◌+◌, ◌^◌, ◌++◌, ◌∷◌, [], ℕ, All, IfErr, IfOk, IfSome, List, OnOk, Some, drop, length, map, slice_get, slice_set, vec_len};
+ghost use Rattle.std.specs.Prelude.{◌≡◌, ◌<◌, ◌≤◌, ◌+◌, ◌^◌, ◌++◌, ◌∷◌, [], ℕ, All, IfErr, IfOk, IfSome, IsTrue, List, OnOk, Some, drop, length, map, slice_get, slice_set, vec_len};
 ghost use Rattle.lists.specs.Lists.{Has};
 ghost use Rattle.graph_core.specs.Arranged.{IsArranged};
 ghost use Rattle.graph_core.specs.Fault.{IsCycleFault};
 ghost use Rattle.graph_core.specs.Graph.{edges};
-ghost use Rattle.graph_core.specs.Walking.{AreUnseen, EarlierAreGrounded, IsMet, IsWalking, KeepsMet, MetAreReached, StartsAt, work};
+ghost use Rattle.graph_core.specs.Walking.{AreDone, AreUnseen, EarlierAreGrounded, IsDone, IsMet, IsWalking, KeepsMet, MetAreReached, StartsAt, work};
 ghost use Rattle.graph_core.specs.declared.walk.Mark.TheVariants.{Unseen, Open, Done};
 
 use crate::{CycleFault, Graph};
@@ -47,10 +47,8 @@ fn unseen_marks(alloc: Global, points: usize) -> Result<Vec<Mark>, AllocError>
     ensures long { IfOk result (λ marks. vec_len marks ≡ points) }
     ensures each { IfOk result (λ marks. AreUnseen marks.items) }
 {
-    let mut marks = Vec::with_capacity(alloc, points)?;
-    for _ in 0..points {
-        marks.push(Mark::Unseen)?;
-    }
+    let mut marks = Vec::new(alloc);
+    marks.resize(points, Mark::Unseen)?;
     Ok(marks)
 }
 
@@ -79,7 +77,30 @@ fn visit_root(
     }
 }
 
-// Puts the points to which an unseen root leads, and the root, into the order.
+// Whether the point is done.
+fn is_done(marks: &[Mark], point: u32) -> bool
+    ensures { IsTrue result → IsDone marks.now point }
+{
+    match marks.get(point as usize).copied() {
+        Some(Mark::Done(_)) => true,
+        _ => false,
+    }
+}
+
+// Whether the points are done.
+fn are_done(marks: &[Mark], points: &[u32]) -> bool
+    ensures { IsTrue result → AreDone marks.now points.now }
+{
+    for point in points {
+        if !is_done(marks, *point) {
+            return false;
+        }
+    }
+    true
+}
+
+// Puts the points to which an unseen root leads, and the root, into the order. A root whose edges lead to points that are
+// done goes there at once: so do nearly all gates of a netlist in which each stands after those that it reads.
 fn visit(
     alloc: Global,
     graph: &Graph,
@@ -98,6 +119,10 @@ fn visit(
     ensures only { OnOk result ((roots : List ℕ) → Has roots root → MetAreReached graph.now roots marks.old.items → MetAreReached graph.now roots marks.new.items) }
     ensures cycle { (roots : List ℕ) (i : ℕ) → EarlierAreGrounded graph.now roots root i → IfErr result (λ fault. IsCycleFault graph.now roots fault) }
 {
+    if are_done(marks, graph.edges(root)) {
+        leave(root, marks, order)?;
+        return Ok(());
+    }
     begin(root, marks, stack)?;
     while let Some(frame) = stack.pop() {
         step(alloc, graph, frame, marks, stack, order)?;
@@ -139,7 +164,7 @@ fn step(
 {
     match next_edge(graph, frame) {
         None => {
-            leave(frame, marks, order)?;
+            leave(frame.point, marks, order)?;
             Ok(())
         }
         Some(to) => match marks[to as usize] {
@@ -177,13 +202,13 @@ fn item(row: &[u32], k: usize) -> Option<u32>
 }
 
 // The point is done and the next one of the order.
-fn leave(frame: Frame, marks: &mut Vec<Mark>, order: &mut Vec<u32>) -> Result<(), AllocError>
-    requires { frame.point < length marks.old.items }
-    ensures marks { OnOk result (marks.new.items ≡ slice_set marks.old.items frame.point (Done (length order.old.items))) }
-    ensures order { OnOk result (order.new.items ≡ order.old.items ++ frame.point ∷ []) }
+fn leave(point: u32, marks: &mut Vec<Mark>, order: &mut Vec<u32>) -> Result<(), AllocError>
+    requires { point < length marks.old.items }
+    ensures marks { OnOk result (marks.new.items ≡ slice_set marks.old.items point (Done (length order.old.items))) }
+    ensures order { OnOk result (order.new.items ≡ order.old.items ++ point ∷ []) }
 {
-    marks[frame.point as usize] = Mark::Done(order.len());
-    order.push(frame.point)?;
+    marks[point as usize] = Mark::Done(order.len());
+    order.push(point)?;
     Ok(())
 }
 

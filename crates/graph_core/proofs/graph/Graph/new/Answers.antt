@@ -1,9 +1,9 @@
-use Rattle.std.proofs.Common.{◌∙◌, arith}
-use Rattle.graph_core.proofs.GraphLemmas.{none_more, none_fits}
+use Rattle.std.proofs.Common.{arith}
+use Rattle.graph_core.proofs.RowLemmas.{none_fits, none_made}
 use Rattle.graph_core.proofs.graph.Graph.new.Goals as goal
 
-pub loop-preserved : goal.loop-preserved
-loop-preserved c = c.in_ok-push.ensures.items ∙ none_more c.loop.rows.items c.loop.counter c.new.result c.loop.invariant c.new.ensures
-
 pub invariant_of-result : goal.invariant_of-result
-invariant_of-result c = none_fits c.loop.rows.items c.loop.counter c.loop.invariant (omega arith)
+invariant_of-result c = none_fits c.new.result.items c.in_ok-rows.rows.items c.args.points c.new.ensures.items c.in_ok-rows.ensures (omega arith)
+
+pub returns : goal.returns
+returns c = none_made c.new.result.items c.in_ok-rows.rows.items c.args.points c.new.ensures.items c.in_ok-rows.ensures
