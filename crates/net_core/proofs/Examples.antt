@@ -8,6 +8,8 @@ use Rattle.net_core.specs.Inside.{IsInside, GateIsInside, IsNetName}
 use Rattle.net_core.specs.Sound.{sources, drivers, Needs, IsCycle, IsSound}
 use Rattle.net_core.specs.Value.{index_of, IsRight}
 use Rattle.net_core.specs.Level.{Levels, level_at, level_over, AreLevels}
+use Rattle.net_core.specs.private.NameHash.{number_after, hash_of}
+use Rattle.net_core.specs.declared.keyed_hash.KeyedHash.{KeyedHash}
 use Rattle.graph_core.specs.Walk.{IsChain}
 
 abbrev named : List ℕ → LabelValue
@@ -47,6 +49,14 @@ number_of_b = refl
 -- no net is named `x`
 number_of_x : number_of one_gate (codes "x") ≡ None
 number_of_x = refl
+
+-- the name `a` as a number: the digits 1, its length, and 97
+number_of_a : number_after 1 (codes "a") ≡ 353
+number_of_a = refl
+
+-- the upper half of 353 times 2^64 + 1 is 353
+hash_of_a : (long : KeyedHash) → hash_of (record { factor = 18446744073709551617; long = long }) (codes "a") ≡ 353
+hash_of_a long = refl
 
 -- net 2 has one driver, the gate
 drivers_of_y : drivers one_gate 2 ≡ 1

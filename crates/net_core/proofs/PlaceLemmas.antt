@@ -1,8 +1,7 @@
 -- Names that are found by their hashes.
-use Rattle.std.proofs.Common.{◌≡◌, ◌∙◌, ap, sym, refl, ℕ, zero, suc, ◌<◌, ◌+◌, List, [], ◌∷◌, ◌++◌, length, Bool, true, false, cond, Option, None, Some, arith, nat_eq}
+use Rattle.std.proofs.Common.{◌≡◌, ◌∙◌, ap, sym, refl, ℕ, zero, suc, ◌<◌, ◌+◌, List, [], ◌∷◌, ◌++◌, length, Bool, true, false, cond, Option, None, Some, arith}
 use Rattle.std.specs.Str.{bytes_eq}
 use Rattle.std.proofs.lemmas.Slice.Eq.{bytes_eq-Decides}
-use Rattle.std.proofs.lemmas.Bool.{eq-eqb}
 use Rattle.net_core.specs.NetList.{NetList, LabelValue, number_from, is_named}
 use Rattle.net_core.specs.Inside.{IsInside}
 use Rattle.net_core.specs.private.Placed.{AreFound, has_name_at}
@@ -31,23 +30,16 @@ none_at n (x ∷ xs) name misses =
       | false ↦ λ e. none_at (n + 1) xs name (λ k less. misses (suc k) (omega arith))
     ] refl
 
--- a key that is missing after the update was missing before it, and is not the new one
-missing : (h q k : ℕ) (before after : Option ℕ) (b : Bool) → nat_eq h q ≡ b → after ≡ cond b (Some k) before → after ≡ None → (b ≡ false) × (before ≡ None)
-missing h q k before after true e is none = absurd (cc)
-missing h q k before after false e is none = (refl, sym is ∙ none)
-
-other_name : (hash : List ℕ → ℕ) (text name : List ℕ) (b : Bool) → bytes_eq name text ≡ b → nat_eq (hash text) (hash name) ≡ false → b ≡ false
-other_name hash text name false e apart = refl
-other_name hash text name true e apart =
+-- a name whose hash is no key is not the text, whose hash is one
+other_name : (hash : List ℕ → ℕ) (keys : ℕ → Option ℕ) (text name : List ℕ) (b : Bool) → bytes_eq name text ≡ b → (keys (hash text) ≡ None → ⊥) → keys (hash name) ≡ None → b ≡ false
+other_name hash keys text name false e has none = refl
+other_name hash keys text name true e has none =
     let same : name ≡ text = (bytes_eq-Decides name text).0 e in
-    let equal : nat_eq (hash text) (hash name) ≡ true = rw same (eq-eqb (hash text) (hash text) refl) in
-    absurd (cc)
+    absurd (has (ap (λ (t : List ℕ). keys (hash t)) (sym same) ∙ none))
 
--- one more name, whose hash is now among the keys
-pub placed_more : (hash : List ℕ → ℕ) (before after : ℕ → Option ℕ) (labels new : List LabelValue) (text : List ℕ) (h k : ℕ) → h ≡ hash text → new ≡ labels ++ record { text = text; named = true } ∷ [] → ((q : ℕ) → after q ≡ cond (nat_eq h q) (Some k) (before q))
-    → ((name : List ℕ) → before (hash name) ≡ None → number_from 0 labels name ≡ None) → (name : List ℕ) → after (hash name) ≡ None → number_from 0 new name ≡ None
-placed_more hash before after labels new text h k hashed is updates old name none =
-    let at = missing h (hash name) k (before (hash name)) (after (hash name)) (nat_eq h (hash name)) refl (updates (hash name)) none in
-    let apart : nat_eq (hash text) (hash name) ≡ false = rw (← hashed) at.0 in
-    let not : is_named name (record { text = text; named = true }) ≡ false = other_name hash text name (bytes_eq name text) refl apart in
-    rw is (number_not 0 labels (record { text = text; named = true }) name not ∙ old name at.1)
+-- one more name, whose hash is among the keys
+pub placed_more : (hash : List ℕ → ℕ) (keys : ℕ → Option ℕ) (labels new : List LabelValue) (text : List ℕ) → new ≡ labels ++ record { text = text; named = true } ∷ [] → (keys (hash text) ≡ None → ⊥)
+    → ((name : List ℕ) → keys (hash name) ≡ None → number_from 0 labels name ≡ None) → (name : List ℕ) → keys (hash name) ≡ None → number_from 0 new name ≡ None
+placed_more hash keys labels new text is has placed name none =
+    let not : is_named name (record { text = text; named = true }) ≡ false = other_name hash keys text name (bytes_eq name text) refl has none in
+    rw is (number_not 0 labels (record { text = text; named = true }) name not ∙ placed name none)

@@ -1,2 +1,3 @@
 -- Words that only clauses of private functions cite.
+pub mod NameHash
 pub mod Placed

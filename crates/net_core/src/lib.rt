@@ -14,6 +14,7 @@ mod level_order;
 mod levels;
 mod maker;
 mod name;
+mod name_hash;
 mod net;
 mod places;
 mod valuation;

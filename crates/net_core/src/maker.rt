@@ -5,8 +5,8 @@ ghost use Rattle.net_core.specs.Inside.{IsNetName, IsFull, HasNoMoreGates, IsIns
 ghost use Rattle.net_core.specs.Turned.{turned};
 
 use crate::label::Label;
-use crate::places::Places;
-use crate::{Gate, Latch, Name, NetFault, Start};
+use crate::places::{Places, add_named};
+use crate::{Gate, Latch, NetFault, Start};
 use std::alloc::{AllocError, Global};
 use std::marker::Model;
 
@@ -97,14 +97,13 @@ impl NetMaker {
         ensures only { IfErr result (λ fault. (fault ≡ NetFault.TooManyNets) ⊎ (fault ≡ NetFault.OutOfMemory)) }
         ensures unchanged { OnErr result (self.new ≡ self.old) }
     {
-        let hash = self.places.hash(name);
-        match self.places.find(&self.labels, hash, name) {
+        match self.places.place(&self.labels, name)? {
             Some(number) => Ok(number),
             None => {
                 if self.labels.len() >= MAX_NETS {
                     return Err(NetFault::TooManyNets);
                 }
-                let number = self.places.add(self.alloc, &mut self.labels, hash, name)?;
+                let number = add_named(self.alloc, &mut self.labels, name)?;
                 Ok(number)
             }
         }
@@ -124,8 +123,8 @@ impl NetMaker {
             return Err(NetFault::TooManyNets);
         }
         let number = self.labels.len() as u32;
-        let text = Name::new(self.alloc, label)?;
-        self.labels.push(Label::new(text, false))?;
+        let label = Label::new(self.alloc, label, false)?;
+        self.labels.push(label)?;
         Ok(number)
     }
 
@@ -202,8 +201,7 @@ impl NetMaker {
         ensures number { result ≡ number_of self.now name.now }
         ensures within { IfSome result (λ n. n < nets self.now) }
     {
-        let hash = self.places.hash(name);
-        self.places.find(&self.labels, hash, name)
+        self.places.find(&self.labels, name)
     }
 
     // How many nets there are.
