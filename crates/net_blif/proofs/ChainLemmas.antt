@@ -169,7 +169,8 @@ all_inside graph a inside = all (edges graph a) (λ b has. inside a b has)
     all (x ∷ xs) each zero d less = each x (0, refl)
     all (x ∷ xs) each (suc k) d less = all xs (λ b has. each b (suc has.0, has.1)) k d (omega arith)
 
-leads_suc : (graph : Graph) (n a : ℕ) → list_any (λ b. leads_on graph n b) (edges graph a) ≡ leads_on graph (suc n) a
+-- one edge more, and then the others
+pub leads_suc : (graph : Graph) (n a : ℕ) → list_any (λ b. leads_on graph n b) (edges graph a) ≡ leads_on graph (suc n) a
 unfolding leads_on
 leads_suc graph n a = refl
 

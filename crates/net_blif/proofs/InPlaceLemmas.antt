@@ -137,7 +137,7 @@ clean_alone word all = clean_word word [] all ∙ append-nil word
 clean_more : (word : List ℕ) (b : ℕ) (line : List ℕ) → All IsWordByte word → IsInner b → clean (word ++ b ∷ line) ≡ word ++ before_trimmed b (clean line)
 clean_more word b line all is = clean_word word (b ∷ line) all ∙ ap (λ l. word ++ trim_end l) (comment_more b line is.no_hash)
 
-goes_more : (b c : ℕ) (line : List ℕ) → goes_on (b ∷ c ∷ line) ≡ goes_on (c ∷ line)
+pub goes_more : (b c : ℕ) (line : List ℕ) → goes_on (b ∷ c ∷ line) ≡ goes_on (c ∷ line)
 goes_more b c line =
     let size : suc (suc (length line)) - 1 ≡ suc (suc (length line) - 1) = omega arith in
     let longer : ltb 0 (suc (suc (length line))) ≡ true = lt-ltb 0 (suc (suc (length line))) (omega arith) in

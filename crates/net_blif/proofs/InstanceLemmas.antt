@@ -19,7 +19,7 @@ use Rattle.net_blif.proofs.StepLemmas.{fault_got, got_later}
 use Rattle.net_blif.proofs.FormalLemmas.{fault_is}
 
 -- a model, and what it places
-model_got : (models : List ModelValue) (k : ℕ) → k < length models → (m : ModelValue) × (Some m ≡ slice_get models k) × (items_of models k ≡ m.items)
+pub model_got : (models : List ModelValue) (k : ℕ) → k < length models → (m : ModelValue) × (Some m ≡ slice_get models k) × (items_of models k ≡ m.items)
 model_got models k below = let m = some_at models k below in (m.0, sym m.1, ap (λ (o : Option ModelValue). option_map_or (λ (m : ModelValue). m.items) o []) m.1)
 
 -- what is wrong with the lines of a model

@@ -8,6 +8,8 @@ pub mod TokenLemmas
 pub mod PlaceLemmas
 pub mod StatementLemmas
 pub mod ReadLemmas
+pub mod RowPlaceLemmas
+pub mod NamesLemmas
 pub mod TableLemmas
 pub mod RowLemmas
 pub mod OutcomeLemmas
@@ -16,5 +18,6 @@ pub mod FormalLemmas
 pub mod InstanceLemmas
 pub mod ChainLemmas
 pub mod RightLemmas
+pub mod BareLemmas
 pub mod TopLemmas
 mod Examples

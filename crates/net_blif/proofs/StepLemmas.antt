@@ -1,5 +1,5 @@
 -- Loops over lists, one element after another.
-use Rattle.std.proofs.Common.{◌≡◌, ◌∙◌, inl, inr, ap, sym, refl, ℕ, zero, suc, ◌<◌, ◌+◌, ◌-◌, Bool, true, false, cond, List, [], ◌∷◌, length, drop, get_or, Option, None, Some, arith, drop-cons, add-one}
+use Rattle.std.proofs.Common.{◌≡◌, ◌∙◌, inl, inr, ap, sym, refl, ℕ, zero, suc, ◌<◌, ◌≤◌, ◌+◌, ◌-◌, Bool, true, false, cond, List, [], ◌∷◌, length, drop, get_or, Option, None, Some, arith, drop-cons, add-one}
 use Rattle.std.specs.Prelude.{filter, slice_get}
 use Rattle.std.proofs.lemmas.Option.{get_or_from_slice_get, slice_get_within}
 use Rattle.net_blif.specs.Statement.{Token}
@@ -23,6 +23,15 @@ after_got f xs i x whole a new at so_far made = so_far ∙ (ap (after f a) (rest
 -- the elements that pass, with the one at i
 pub filter_got : {A : Type 0} (test : A → Bool) (xs : List A) (i : ℕ) (x : A) → Some x ≡ slice_get xs i → filter test (drop i xs) ≡ cond (test x) (x ∷ filter test (drop (i + 1) xs)) (filter test (drop (i + 1) xs))
 filter_got test xs i x at = ap (filter test) (rest_got xs i x at)
+
+-- no more elements pass than there are
+pub filter_few : {A : Type 0} (test : A → Bool) (xs : List A) → length (filter test xs) ≤ length xs
+filter_few test [] = omega arith
+filter_few test (x ∷ xs) = by (test x) (filter_few test xs)
+  where
+    by : (b : Bool) → length (filter test xs) ≤ length xs → length (cond b (x ∷ filter test xs) (filter test xs)) ≤ suc (length xs)
+    by true few = omega (arith, few)
+    by false few = omega (arith, few)
 
 pub count_got : {A : Type 0} (test : A → Bool) (xs : List A) (i : ℕ) (x : A) (whole count one new : ℕ) → Some x ≡ slice_get xs i → whole ≡ count + length (filter test (drop i xs)) → one ≡ cond (test x) 1 0 → new ≡ count + one → whole ≡ new + length (filter test (drop (i + 1) xs))
 count_got test xs i x whole count one new at so_far is made = by (test x) (so_far ∙ ap (λ ys. count + length ys) (filter_got test xs i x at)) is

@@ -3,3 +3,4 @@ pub mod Leading
 pub mod FirstLine
 pub mod Rows
 pub mod ReadOn
+pub mod Bare

@@ -1,10 +1,12 @@
 //! Covers and their tables.
-ghost use Rattle.std.specs.Prelude.{◌≡◌, ◌==◌, ◌<◌, ◌≤◌, ◌+◌, ◌*◌, ◌^◌, ◌++◌, ◌∷◌, [], Some, length, OnOk, OnErr, if◌then◌else◌};
+ghost use Rattle.std.specs.Prelude.{◌≡◌, ◌==◌, ◌<◌, ◌≤◌, ◌+◌, ◌*◌, ◌^◌, ◌++◌, ◌∷◌, [], Some, length, IsTrue, IfSome, OnOk, OnErr, if◌then◌else◌};
 ghost use Rattle.net_blif.specs.Item.{IsSoundCover};
+ghost use Rattle.net_blif.specs.private.FirstLine.{RowStandsAlone};
 ghost use Rattle.net_blif.specs.private.Rows.{unless};
 ghost use Rattle.net_blif.specs.Cover.{fits as row_fits, cell_fits as fits_cell, fits_some as some_fits, gate_bit as bit_of_gate, agrees as may_agree, number_of_bits, begun, gate_of, takes_row, with_row};
 
 use crate::item_list::ItemList;
+use crate::rows::{PlacedRow, row_in_place};
 use crate::token::Token;
 use std::alloc::{AllocError, Global};
 use std::marker::Model;
@@ -76,6 +78,19 @@ impl<'a> Cover<'a> {
         ensures { result ≡ takes_row pattern.now output self.now }
     {
         pattern.len() == self.inputs.len() && agrees(self.output, output)
+    }
+
+    /// The row with which a text begins, where it may be the next row and its line stands alone. None says nothing.
+    pub fn row_at<'t>(&self, text: &'t [u8]) -> Option<PlacedRow<'t>>
+        requires { length self.now.inputs ≤ 6 }
+        ensures row { IfSome result (λ r. RowStandsAlone text.now r.pattern.now r.output r.after.now) }
+        ensures takes { IfSome result (λ r. IsTrue (takes_row r.pattern.now r.output self.now)) }
+    {
+        let row = row_in_place(text, self.inputs.len())?;
+        if !self.takes(row.pattern, row.output) {
+            return None;
+        }
+        Some(row)
     }
 
     /// One more row.
@@ -214,7 +229,9 @@ fn cell_by_cell(pattern: &[u8]) -> u64
     bits
 }
 
-// The bits of the indices that a row of any length fits.
+// The bits of the indices that a row of any length fits. Out of line, since rows of covers have a cell for each input.
+#[cold]
+#[inline(never)]
 fn index_by_index(inputs: u32, pattern: &[u8]) -> u64
     requires { inputs ≤ 6 }
     ensures { result ≡ number_of_bits (row_fits pattern.now) (2 ^ inputs) }
@@ -238,7 +255,8 @@ fn row_bits(inputs: u32, pattern: &[u8]) -> u64
     }
 }
 
-// The bits of the indices that some row fits.
+// The bits of the indices that some row fits. Always inlined, since most covers have one short row.
+#[inline(always)]
 fn rows_bits(inputs: u32, rows: &[Token<'_>]) -> u64
     requires { inputs ≤ 6 }
     ensures { result ≡ number_of_bits (some_fits rows.now) (2 ^ inputs) }

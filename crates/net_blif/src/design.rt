@@ -1,15 +1,16 @@
 //! Designs.
 ghost use Rattle.std.specs.Prelude.{◌≡◌, ◌⊎◌, ◌<◌, ◌^◌, Ok, Err, Some, IfOk, IfErr, OnOk, length, slice_get};
+ghost use Rattle.std.specs.List.{list_any};
 ghost use Rattle.net_blif.specs.Design.{ModelValue, items_of, model_named};
 ghost use Rattle.net_blif.specs.Models.{AreRight};
 ghost use Rattle.net_blif.specs.Top.{instances_of};
+ghost use Rattle.net_blif.specs.private.Bare.{has_instances};
 
 use crate::BlifFault;
 use crate::chains::{check_depth, check_walk, graph};
 use crate::instances::check_instances;
 use crate::item_list::ItemList;
 use crate::model_list::ModelList;
-use crate::top::count;
 use std::alloc::Global;
 use std::marker::Model;
 
@@ -34,12 +35,27 @@ impl Model for Design {
     ghost invariant = { λ d. (0 < length d.models) × AreRight d.models (Ok tt) × (length (instances_of d.models) < 2 ^ 32) };
 }
 
-// Whether models are right; else the first fault.
+// Whether some model has instances.
+fn have_instances(models: &ModelList) -> bool
+    ensures { result ≡ list_any has_instances models.now }
+{
+    for model in 0..models.models() {
+        if models.items(model).has_instance() {
+            return true;
+        }
+    }
+    false
+}
+
+// Whether models are right, as those without instances are; else the first fault.
 fn check(alloc: Global, models: &ModelList) -> Result<(), BlifFault>
     requires { 0 < length models.now }
     ensures right { OnOk result (AreRight models.now (Ok tt)) }
     ensures fault { IfErr result (λ e. (e ≡ BlifFault.OutOfMemory) ⊎ AreRight models.now (Err e)) }
 {
+    if !have_instances(models) {
+        return Ok(());
+    }
     check_instances(alloc, models)?;
     let graph = graph(alloc, models)?;
     check_walk(alloc, models, &graph)?;
@@ -49,6 +65,7 @@ fn check(alloc: Global, models: &ModelList) -> Result<(), BlifFault>
 
 impl Design {
     // The design of these models, if they are right; else the first fault.
+    #[tactic(auto, using(crate::proofs::StepLemmas::filter_few))]
     pub(crate) fn new(alloc: Global, models: ModelList) -> Result<Design, BlifFault>
         requires { 0 < length models }
         ensures design { IfOk result (λ design. design ≡ models) }
@@ -56,8 +73,8 @@ impl Design {
         ensures fault { IfErr result (λ e. (e ≡ BlifFault.OutOfMemory) ⊎ AreRight models (Err e)) }
     {
         check(alloc, &models)?;
-        // the instances are in memory, so their count is below 2^32
-        let Ok(_) = u32::try_from(count(models.items(0))) else {
+        // the items are in memory, so there are fewer than 2^32, and so are the instances among them
+        let Ok(_) = u32::try_from(models.items(0).len()) else {
             return Err(BlifFault::OutOfMemory);
         };
         Ok(Design { models })

@@ -1,10 +1,10 @@
 //! Lines that stand alone, read where they stand.
-ghost use Rattle.std.specs.Prelude.{◌≡◌, ◌<◌, ◌≤◌, ◌∷◌, ◌++◌, [], ℕ, false, length, slice_index, All, IsTrue, IfOk, IfSome, OnOk};
+ghost use Rattle.std.specs.Prelude.{◌≡◌, ◌<◌, ◌≤◌, ◌∷◌, ◌++◌, [], ℕ, false, codes, length, slice_index, All, IsTrue, IfOk, IfSome, OnOk};
 ghost use Rattle.std.specs.Str.Lines.{lines};
 ghost use Rattle.text_core.specs.Lines.{is_blank as blank};
 ghost use Rattle.net_blif.specs.Lines.{goes_on as line_goes_on};
 ghost use Rattle.net_blif.specs.Statement.{IsToken};
-ghost use Rattle.net_blif.specs.private.FirstLine.{as_word, IsWordByte, StandsAlone};
+ghost use Rattle.net_blif.specs.private.FirstLine.{as_word, with_names, IsWordByte, StandsAlone};
 
 use crate::token::Token;
 use crate::word_run::word_run;
@@ -95,9 +95,9 @@ fn push_word<'a>(words: &mut Vec<Token<'a>>, word: &'a [u8]) -> Result<(), Alloc
     Ok(())
 }
 
-/// Puts the tokens of the first line of a text into `words`, and gives the text after it. It gives a text only where the
-/// line stands alone, ends with LF, and each of its tokens has 1 to 255 bytes from `$` to `~`.
-pub fn line_in_place<'a>(
+// Puts the tokens of the first line of a text into `words`, and gives the text after it. It gives a text only where the
+// line stands alone, ends with LF, and each of its tokens has 1 to 255 bytes from `$` to `~`.
+fn line_in_place<'a>(
     text: &'a [u8],
     words: &mut Vec<Token<'a>>,
 ) -> Result<Option<&'a [u8]>, AllocError>
@@ -121,4 +121,34 @@ pub fn line_in_place<'a>(
         rest = front.rest;
     }
     Ok(None)
+}
+
+// Whether a text begins with `.names` and a space, and what stands behind these, or else the whole text.
+fn behind_names(text: &[u8]) -> (bool, &[u8])
+    ensures names { IsTrue result.0 → text.now ≡ codes ".names" ++ 32 ∷ result.1.now }
+    ensures other { result.0 ≡ false → result.1.now ≡ text.now }
+    ensures within { length result.1.now ≤ length text.now }
+{
+    match text.strip_prefix(b".names ") {
+        Some(rest) => (true, rest),
+        None => (false, text),
+    }
+}
+
+/// Puts the tokens of the first line of a text into `words`, but for a first one that is `.names` and stands before a space,
+/// and gives whether there is such a one, and the text after the line. It gives these only where the line stands alone,
+/// ends with LF, and each of its tokens has 1 to 255 bytes from `$` to `~`.
+pub fn words_in_place<'a>(
+    text: &'a [u8],
+    words: &mut Vec<Token<'a>>,
+) -> Result<Option<(bool, &'a [u8])>, AllocError>
+    ensures line { IfOk result (λ found. IfSome found (λ r. StandsAlone text.now (with_names r.0 words.new.items) r.1.now)) }
+    ensures tokens { IfOk result (λ found. IfSome found (λ r. All IsToken words.new.items)) }
+    ensures shorter { IfOk result (λ found. IfSome found (λ r. length r.1.now < length text.now)) }
+{
+    let (is_cover, rest) = behind_names(text);
+    let Some(after) = line_in_place(rest, words)? else {
+        return Ok(None);
+    };
+    Ok(Some((is_cover, after)))
 }

@@ -1,9 +1,11 @@
 //! What the lines of a model place, with their tokens in one text.
 ghost use Rattle.std.specs.Prelude.{◌≡◌, ◌≤◌, ◌<◌, ◌+◌, ◌^◌, [], ◌∷◌, ◌++◌, Some, length, slice_get, slice_index_or, slice_range, All, IsTrue, IfOk, OnOk};
-ghost use Rattle.std.specs.List.{list_all};
+ghost use Rattle.std.specs.List.{list_all, list_any};
 ghost use Rattle.net_blif.specs.Connection.{is_connection};
 ghost use Rattle.net_blif.specs.Item.{IsSoundItem};
 ghost use Rattle.net_blif.specs.Statement.{IsToken};
+ghost use Rattle.net_blif.specs.Top.{is_instance};
+ghost use Rattle.net_blif.specs.private.Bare.{is_instance_place};
 
 use crate::item::Item;
 use crate::token::Token;
@@ -86,6 +88,13 @@ impl ItemList {
         ensures { result ≡ length self.now }
     {
         self.places.len()
+    }
+
+    /// Whether an item is an instance.
+    pub fn has_instance(&self) -> bool
+        ensures { result ≡ list_any is_instance self.now }
+    {
+        any_instance(&self.places)
     }
 
     /// The item of a place below the count.
@@ -206,6 +215,20 @@ impl ItemList {
         self.places.push(Place::Instance { line, first, end })?;
         Ok(())
     }
+}
+
+// Whether a place is that of an instance.
+fn of_instance(place: &Place) -> bool
+    ensures { result ≡ is_instance_place place.now }
+{
+    matches!(place, Place::Instance { .. })
+}
+
+// Whether one of the places is that of an instance.
+fn any_instance(places: &[Place]) -> bool
+    ensures { result ≡ list_any is_instance_place places.now }
+{
+    places.iter().any(|place| of_instance(place))
 }
 
 // The place of an item.

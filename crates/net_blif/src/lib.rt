@@ -18,6 +18,7 @@ mod model_list;
 mod open_model;
 mod read;
 mod reader;
+mod rows;
 mod spelling;
 mod statement;
 mod table;

@@ -1,9 +1,10 @@
 //! A model whose lines are being read.
-ghost use Rattle.std.specs.Prelude.{◌≡◌, ◌≤◌, ◌∷◌, [], None, Some, false, length, All, IsTrue, IfOk, OnOk};
+ghost use Rattle.std.specs.Prelude.{◌≡◌, ◌≤◌, ◌∷◌, [], None, Some, false, length, All, IsTrue, IfOk, IfSome, OnOk};
 ghost use Rattle.std.specs.List.{list_all};
 ghost use Rattle.std.specs.Option.{option_map_or};
 ghost use Rattle.net_blif.specs.Connection.{is_connection};
 ghost use Rattle.net_blif.specs.Statement.{IsToken};
+ghost use Rattle.net_blif.specs.private.FirstLine.{RowStandsAlone};
 ghost use Rattle.net_blif.specs.Cover.{begun, takes_row};
 ghost use Rattle.net_blif.specs.declared.item.Item.{Item};
 ghost use Rattle.net_blif.specs.Models.{placed, with_cover_row, with_items};
@@ -11,6 +12,7 @@ ghost use Rattle.net_blif.specs.Models.{placed, with_cover_row, with_items};
 use crate::cover::Cover;
 use crate::item_list::ItemList;
 use crate::model_list::ModelText;
+use crate::rows::PlacedRow;
 use crate::token::Token;
 use net_core::{Name, Start};
 use std::alloc::{AllocError, Global};
@@ -55,6 +57,17 @@ impl<'a> OpenModel<'a> {
         ensures { result ≡ option_map_or (takes_row pattern.now output) self.now.cover false }
     {
         self.is_open && self.cover.takes(pattern, output)
+    }
+
+    /// The row with which a text begins, where it may be the next row and its line stands alone. None says nothing.
+    pub fn row_at<'t>(&self, text: &'t [u8]) -> Option<PlacedRow<'t>>
+        ensures row { IfSome result (λ r. RowStandsAlone text.now r.pattern.now r.output r.after.now) }
+        ensures takes { IfSome result (λ r. IsTrue (option_map_or (takes_row r.pattern.now r.output) self.now.cover false)) }
+    {
+        if !self.is_open {
+            return None;
+        }
+        self.cover.row_at(text)
     }
 
     /// Ends the cover just begun, if one is open, which is then a gate.

@@ -6,7 +6,7 @@ ghost use Rattle.net_blif.specs.Statement.{is_dotted as dotted};
 ghost use Rattle.net_blif.specs.Models.{begins, first_word as first_word_of, start, BlifDesign, Reads};
 ghost use Rattle.net_blif.specs.private.ReadOn.{ReadsOn};
 
-use crate::in_place::line_in_place;
+use crate::in_place::words_in_place;
 use crate::lines::next_joined;
 use crate::reader::Reader;
 use crate::spelling::are_tokens;
@@ -65,7 +65,7 @@ fn has_model(alloc: Global, text: &[u8]) -> Result<bool, AllocError>
 }
 
 // What the first line of a text says: the text after it, and the count of its physical lines. A line that stands alone is
-// read where it stands; the tokens of the line are left in `words`.
+// read where it stands: that of a row at a glance, and that of a cover without its first word. Tokens are left in `words`.
 fn read_first<'a>(
     reader: &mut Reader<'a>,
     alloc: Global,
@@ -80,8 +80,12 @@ fn read_first<'a>(
     ensures count { IfOk result (λ r. length r.0.now + r.1 ≤ length text.now) }
     ensures shorter { IfOk result (λ r. length r.0.now < length text.now) }
 {
-    if let Some(after) = line_in_place(text, words)? {
-        reader.read_words(alloc, number, words)?;
+    if let Some(row) = reader.row_at(text) {
+        reader.read_row(row.pattern, row.output)?;
+        return Ok((row.after, 1));
+    }
+    if let Some((is_cover, after)) = words_in_place(text, words)? {
+        reader.read_alone(alloc, number, is_cover, words)?;
         return Ok((after, 1));
     }
     let (after, count) = next_joined(alloc, text, words)?;

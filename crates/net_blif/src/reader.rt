@@ -1,9 +1,10 @@
 //! What was read of a text, line by line.
-ghost use Rattle.std.specs.Prelude.{◌≡◌, ◌⊎◌, ◌≤◌, ◌∷◌, [], None, Some, Ok, Err, length, IfOk, IfErr, OnOk, All, IsTrue};
+ghost use Rattle.std.specs.Prelude.{◌≡◌, ◌⊎◌, ◌≤◌, ◌∷◌, ℕ, [], None, Some, Ok, Err, codes, is_some, length, IfOk, IfErr, IfSome, OnOk, All, IsTrue};
 ghost use Rattle.std.specs.List.{list_all};
 ghost use Rattle.text_core.specs.Lines.{IsPrinting};
 ghost use Rattle.net_blif.specs.Connection.{is_connection};
-ghost use Rattle.net_blif.specs.Statement.{IsToken};
+ghost use Rattle.net_blif.specs.Statement.{IsToken, is_cell, row_tokens};
+ghost use Rattle.net_blif.specs.private.FirstLine.{with_names, RowStandsAlone};
 ghost use Rattle.net_blif.specs.Cover.{begun};
 ghost use Rattle.net_blif.specs.Item.{HasPrintingNames};
 ghost use Rattle.net_blif.specs.declared.item.Item.{Item};
@@ -12,7 +13,8 @@ ghost use Rattle.net_blif.specs.Models.{in_model, with_cover_row, with_items, mo
 use crate::BlifFault;
 use crate::model_list::ModelList;
 use crate::open_model::OpenModel;
-use crate::spelling::read_statement;
+use crate::rows::PlacedRow;
+use crate::spelling::{nets_of, read_statement};
 use crate::statement::{Statement, start_of};
 use crate::token::Token;
 use net_core::{Name, Start};
@@ -243,6 +245,51 @@ impl<'a> Reader<'a> {
         }
     }
 
+    /// The row with which a text begins, where it may stand here and its line stands alone. None says nothing.
+    pub fn row_at(&self, text: &'a [u8]) -> Option<PlacedRow<'a>>
+        ensures row { IfSome result (λ r. RowStandsAlone text.now r.pattern.now r.output r.after.now) }
+        ensures stands { IfSome result (λ r. IsTrue (may_stand_here self.now (Statement.Row r.pattern.now r.output))) }
+    {
+        match &self.model {
+            None => None,
+            Some(model) => model.row_at(text),
+        }
+    }
+
+    /// Adds what the line of a row says that may stand here. After an error the reader is not used again.
+    pub fn read_row(&mut self, pattern: &'a [u8], output: bool) -> Result<(), AllocError>
+        requires tokens { All IsToken (row_tokens pattern.now output) }
+        requires cells { IsTrue (list_all is_cell pattern.now) }
+        requires stands { IsTrue (may_stand_here self.old (Statement.Row pattern.now output)) }
+        ensures { OnOk result ((line : ℕ) → ReadsLine self.old line (row_tokens pattern.now output) (Ok self.new)) }
+    {
+        self.add_row(pattern, output)?;
+        Ok(())
+    }
+
+    // Whether a model is being read.
+    fn is_open(&self) -> bool
+        ensures { result ≡ is_some self.now.model }
+    {
+        self.model.is_some()
+    }
+
+    // Adds what a line of `.names` and these tokens says.
+    fn read_cover(&mut self, line: u32, nets: &[Token<'a>]) -> Result<(), BlifFault>
+        requires { All IsToken nets.now }
+        ensures read { OnOk result (ReadsLine self.old line (codes ".names" ∷ nets.now) (Ok self.new)) }
+        ensures fault { IfErr result (λ e. (e ≡ BlifFault.OutOfMemory) ⊎ ReadsLine self.old line (codes ".names" ∷ nets.now) (Err e)) }
+    {
+        let Some(parts) = nets_of(nets) else {
+            return Err(BlifFault::Syntax { line });
+        };
+        if !self.is_open() {
+            return Err(BlifFault::Syntax { line });
+        }
+        self.cover(line, parts.inputs, parts.out)?;
+        Ok(())
+    }
+
     /// Adds what a line of these tokens says. After an error the reader is not used again.
     pub fn read_words(
         &mut self,
@@ -265,6 +312,24 @@ impl<'a> Reader<'a> {
         }
         self.next(alloc, line, &statement)?;
         Ok(())
+    }
+
+    /// Adds what a line of these tokens says, or one of `.names` and these. After an error the reader is not used again.
+    pub fn read_alone(
+        &mut self,
+        alloc: Global,
+        line: u32,
+        is_cover: bool,
+        words: &[Token<'a>],
+    ) -> Result<(), BlifFault>
+        requires { All IsToken words.now }
+        ensures read { OnOk result (ReadsLine self.old line (with_names is_cover words.now) (Ok self.new)) }
+        ensures fault { IfErr result (λ e. (e ≡ BlifFault.OutOfMemory) ⊎ ReadsLine self.old line (with_names is_cover words.now) (Err e)) }
+    {
+        if is_cover {
+            return self.read_cover(line, words);
+        }
+        self.read_words(alloc, line, words)
     }
 }
 

@@ -1,5 +1,5 @@
 //! The words of a line, and the statement that they spell.
-ghost use Rattle.std.specs.Prelude.{◌≡◌, ◌↔◌, ◌∷◌, [], All, IsTrue, IfOk, if◌then◌else◌};
+ghost use Rattle.std.specs.Prelude.{◌≡◌, ◌↔◌, ◌∷◌, [], None, Some, All, IsTrue, IfOk, IfSome, IfNone, if◌then◌else◌};
 ghost use Rattle.text_core.specs.Lines.{tokens_of};
 ghost use Rattle.net_blif.specs.Statement.{IsToken, is_dotted as dotted};
 ghost use Rattle.net_blif.specs.Spelling.{bit_of as bit_that, cover_of, dotted_of, end_of, instance_of, latch_of, model_of, row_of, statement_of};
@@ -57,16 +57,37 @@ fn model<'w, 'a>(rest: &'w [Token<'a>]) -> Option<Statement<'w, 'a>>
     }
 }
 
+/// The nets of a cover: its inputs, and its output.
+#[derive(Drop)]
+pub struct Nets<'w, 'a> {
+    pub inputs: &'w [Token<'a>],
+    pub out: &'a [u8],
+}
+
+/// The nets that the words after `.names` say, if they say some.
+pub fn nets_of<'w, 'a>(rest: &'w [Token<'a>]) -> Option<Nets<'w, 'a>>
+    ensures some { IfSome result (λ nets. cover_of rest.now ≡ Some (Statement.Cover nets.inputs.now nets.out.now)) }
+    ensures none { IfNone result (cover_of rest.now ≡ None) }
+{
+    match rest {
+        [inputs @ .., out] => Some(Nets {
+            inputs,
+            out: out.bytes(),
+        }),
+        [] => None,
+    }
+}
+
 // What the words after `.names` say.
 fn cover<'w, 'a>(rest: &'w [Token<'a>]) -> Option<Statement<'w, 'a>>
     ensures { result ≡ cover_of rest.now }
 {
-    match rest {
-        [inputs @ .., out] => Some(Statement::Cover {
-            inputs: Tokens::new(inputs),
-            out: Token::new(out.bytes()),
+    match nets_of(rest) {
+        Some(nets) => Some(Statement::Cover {
+            inputs: Tokens::new(nets.inputs),
+            out: Token::new(nets.out),
         }),
-        [] => None,
+        None => None,
     }
 }
 

@@ -116,7 +116,8 @@ impl TokenList {
         self.all().get(place)
     }
 
-    /// One more token at the end.
+    /// One more token at the end. Always inlined, since a call costs as much as a short token.
+    #[inline(always)]
     pub fn push(&mut self, token: &[u8]) -> Result<(), AllocError>
         ensures made { OnOk result (self.new ≡ self.old ++ token.now ∷ []) }
         ensures unchanged { OnErr result (self.new ≡ self.old) }
@@ -128,6 +129,7 @@ impl TokenList {
     }
 
     /// The tokens of a line at the end.
+    #[inline(always)]
     pub fn push_all(&mut self, tokens: &[Token<'_>]) -> Result<(), AllocError>
         ensures made { OnOk result (self.new ≡ self.old ++ tokens.now) }
         ensures grows { (more : List (List ℕ)) × (self.new ≡ self.old ++ more) }

@@ -52,8 +52,8 @@ fn counted(item: &Item<'_>) -> usize
     if is_instance(item) { 1 } else { 0 }
 }
 
-/// How many instances there are.
-pub fn count(items: &ItemList) -> usize
+// How many instances there are.
+fn count(items: &ItemList) -> usize
     ensures { result ≡ length (filter instance_is items.now) }
 {
     let mut count = 0;

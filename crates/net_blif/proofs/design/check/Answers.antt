@@ -1,8 +1,16 @@
-use Rattle.std.proofs.Common.{rules, ◌≡◌, ◌⊎◌, Err}
+use Rattle.std.proofs.Common.{rules, ◌≡◌, ◌⊎◌, false, Err}
+use Rattle.std.specs.List.{list_any}
 use Rattle.net_blif.specs.Models.{AreRight}
+use Rattle.net_blif.specs.private.Bare.{has_instances}
 use Rattle.net_blif.specs.declared.fault.BlifFault.TheVariants.{OutOfMemory}
+use Rattle.net_blif.proofs.BareLemmas.{bare_right}
 use Rattle.net_blif.proofs.RightLemmas.{right, wrong_depth, wrong_formals, wrong_walk}
 use Rattle.net_blif.proofs.design.check.Goals as goal
+
+pub returns-then-not-have_instances-clause-right : goal.returns-then-not-have_instances-clause-right
+returns-then-not-have_instances-clause-right c =
+    let none : list_any has_instances c.args.models.now ≡ false = search rules in
+    bare_right c.args.models.now none
 
 pub returns-in_err-check_instances-clause-fault : goal.returns-in_err-check_instances-clause-fault
 returns-in_err-check_instances-clause-fault c =
