@@ -2,7 +2,7 @@
 ghost use Rattle.std.specs.Prelude.{◌≡◌, OnOk, option_and_then};
 ghost use Rattle.text_core.specs.Lines.{IsPrinting};
 ghost use Rattle.net_blif.specs.Table.{no_numbers, with_number};
-ghost use Rattle.net_flat.specs.private.KnownNumbers.{known_in};
+ghost use Rattle.net_flat.specs.private.KnownNumbers.{known_in, HasPlace};
 ghost use Rattle.net_flat.specs.private.Marking.{number_in_walk};
 
 use crate::known_names::KnownNames;
@@ -38,7 +38,7 @@ impl KnownNames {
             alloc,
             marks: IndexMap::with_hasher(alloc, KeyedHash::new(key)),
             walk: 0,
-            place: 0,
+            place: None,
             names: Order::new(alloc),
             formals: Order::new(alloc),
         }
@@ -62,15 +62,17 @@ impl KnownNames {
         requires { IsPrinting name.now }
         ensures number { result ≡ known_in self.old name.now }
         ensures kept { known_in self.new ≡ known_in self.old }
+        ensures place { HasPlace self.new name.now }
     {
         let (place, mark) = seek(&self.marks, &mut self.names, name);
         self.place = place;
         number_of(mark, self.walk)
     }
 
-    /// Gives a name this number, most likely the one that was mentioned.
+    /// Gives the name that was mentioned last this number.
     pub fn insert(&mut self, name: &[u8], number: u32) -> Result<(), AllocError>
-        requires { IsPrinting name.now }
+        requires name { IsPrinting name.now }
+        requires place { HasPlace self.old name.now }
         ensures { OnOk result (known_in self.new ≡ with_number (known_in self.old) name.now number) }
     {
         let mark = Mark {

@@ -10,12 +10,13 @@ use std::alloc::Global;
 
 /// The names that walks over a model met, each with its mark, by a hash with a key. A name has a number only where its mark
 /// is of the present walk, so that what is kept of a name serves all walks over the model: the next one finds each name
-/// where it stood, and neither hashes nor copies it.
+/// where it stood, and neither hashes nor copies it. The place is where the name stands that was mentioned last, if it
+/// stands there.
 pub struct KnownNames {
     pub alloc: Global,
     pub marks: IndexMap<String, Mark, KeyedHash>,
     pub walk: u32,
-    pub place: usize,
+    pub place: Option<usize>,
     pub names: Order,
     pub formals: Order,
     ghost before: { AreBefore (get_by_text marks) walk },

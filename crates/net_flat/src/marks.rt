@@ -14,7 +14,8 @@ use std::alloc::{AllocError, Global};
 
 // The mark of a name, if it stands at this place.
 fn mark_at(marks: &IndexMap<String, Mark, KeyedHash>, place: usize, name: &[u8]) -> Option<Mark>
-    ensures { IfSome result (λ mark. get_by_text marks.now name.now ≡ Some mark) }
+    ensures mark { IfSome result (λ mark. get_by_text marks.now name.now ≡ Some mark) }
+    ensures place { IfSome result (λ _. StandsAt marks.now place name.now) }
 {
     match marks.get_index(place) {
         Some((key, mark)) => {
@@ -38,25 +39,6 @@ fn search(marks: &IndexMap<String, Mark, KeyedHash>, name: &str) -> (usize, Opti
     }
 }
 
-/// Where a name stands, or behind all, and its mark. It is looked for where the order says first.
-pub fn seek(
-    marks: &IndexMap<String, Mark, KeyedHash>,
-    order: &mut Order,
-    name: &[u8],
-) -> (usize, Option<Mark>)
-    requires { IsPrinting name.now }
-    ensures { result.1 ≡ get_by_text marks.now name.now }
-{
-    let hint = order.hint();
-    if let Some(mark) = mark_at(marks, hint, name) {
-        order.pass();
-        return (hint, Some(mark));
-    }
-    let (place, mark) = search(marks, text_of(name));
-    order.put(place);
-    (place, mark)
-}
-
 // Whether a name stands at this place.
 fn stands_at(marks: &IndexMap<String, Mark, KeyedHash>, place: usize, name: &[u8]) -> bool
     ensures { IsTrue result → StandsAt marks.now place name.now }
@@ -65,6 +47,37 @@ fn stands_at(marks: &IndexMap<String, Mark, KeyedHash>, place: usize, name: &[u8
         Some((key, _)) => is_same(key.as_bytes(), name),
         None => false,
     }
+}
+
+// This place, if a name stands there.
+fn if_stands(marks: &IndexMap<String, Mark, KeyedHash>, place: usize, name: &[u8]) -> Option<usize>
+    ensures { IfSome result (λ p. StandsAt marks.now p name.now) }
+{
+    if stands_at(marks, place, name) {
+        Some(place)
+    } else {
+        None
+    }
+}
+
+/// Where a name stands, and its mark. It is looked for where the order says first.
+pub fn seek(
+    marks: &IndexMap<String, Mark, KeyedHash>,
+    order: &mut Order,
+    name: &[u8],
+) -> (Option<usize>, Option<Mark>)
+    requires { IsPrinting name.now }
+    ensures place { IfSome result.0 (λ p. StandsAt marks.now p name.now) }
+    ensures mark { result.1 ≡ get_by_text marks.now name.now }
+{
+    let hint = order.hint();
+    if let Some(mark) = mark_at(marks, hint, name) {
+        order.pass();
+        return (Some(hint), Some(mark));
+    }
+    let (place, mark) = search(marks, text_of(name));
+    order.put(place);
+    (if_stands(marks, place, name), mark)
 }
 
 // Gives the name that stands at this place a mark.
@@ -91,22 +104,24 @@ fn write(
     Ok(())
 }
 
-/// Gives a name a mark. It is likely to stand at this place.
+/// Gives a name a mark. It stands at this place, if there is one.
 pub fn put(
     alloc: Global,
     marks: &mut IndexMap<String, Mark, KeyedHash>,
-    place: usize,
+    place: Option<usize>,
     name: &[u8],
     mark: Mark,
 ) -> Result<(), AllocError>
-    requires { IsPrinting name.now }
+    requires name { IsPrinting name.now }
+    requires place { IfSome place (λ p. StandsAt marks.old p name.now) }
     ensures made { OnOk result ((q : List ℕ) → get_by_text marks.new q ≡ with_mark (get_by_text marks.old) name.now mark q) }
     ensures unchanged { OnErr result ((q : List ℕ) → get_by_text marks.new q ≡ get_by_text marks.old q) }
 {
-    if stands_at(marks, place, name) {
-        write_at(marks, place, name, mark);
-        Ok(())
-    } else {
-        write(alloc, marks, text_of(name), mark)
+    match place {
+        Some(place) => {
+            write_at(marks, place, name, mark);
+            Ok(())
+        }
+        None => write(alloc, marks, text_of(name), mark),
     }
 }

@@ -1,9 +1,11 @@
 //! The walk over the lines of models.
-ghost use Rattle.std.specs.Prelude.{◌≡◌, ◌⊎◌, ◌++◌, ℕ, Ok, Some, None, IfOk, IfErr, OnOk, string_bytes};
-ghost use Rattle.net_core.specs.NetList.{empty};
+ghost use Rattle.std.specs.Prelude.{◌≡◌, ◌⊎◌, ◌++◌, ℕ, Ok, Some, None, IfOk, IfErr, IsErrOf, OnOk, false, string_bytes};
+ghost use Rattle.text_core.specs.Lines.{IsPrinting};
+ghost use Rattle.net_core.specs.Inside.{IsFull};
+ghost use Rattle.net_core.specs.NetList.{empty, nets, with_label};
 ghost use Rattle.net_blif.specs.Statement.{IsToken};
 ghost use Rattle.net_flat.specs.Steps.{Mention};
-ghost use Rattle.net_flat.specs.private.KnownNumbers.{known_in};
+ghost use Rattle.net_flat.specs.private.KnownNumbers.{known_in, HasPlace};
 ghost use Rattle.net_flat.specs.private.LocalWalk.{AreInside, InTop, Inside, IsFaultOf, found, local_step, state_with};
 ghost use Rattle.net_flat.specs.private.WalkerState.{state_of};
 
@@ -14,11 +16,11 @@ use crate::namer::Namer;
 use crate::scope::Scope;
 use net_blif::text_of;
 use net_core::{NetFault, NetMaker};
-use std::alloc::{AllocError, Global};
+use std::alloc::Global;
 
 /// A walk on its way: the net list so far, how many instances were entered, and what is known of names.
-/// The numbers of a gate's inputs stand in a list that is used again, as the label of a new net does. What is known of
-/// the names of a model is kept for the next walk over it.
+/// The numbers of a gate's inputs stand in a list that is used again. What is known of the names of a model is kept for the
+/// next walk over it.
 #[derive(Drop)]
 pub struct Walker<'a> {
     pub alloc: Global,
@@ -27,7 +29,6 @@ pub struct Walker<'a> {
     pub instances: u32,
     pub scope: Scope,
     pub inputs: Vec<u32>,
-    pub label: String,
     pub kept: Kept,
 }
 
@@ -41,32 +42,39 @@ pub fn fault_of(fault: NetFault) -> FlatFault
     }
 }
 
-// Makes the label of a name behind this prefix.
-fn write_label(label: &mut String, prefix: &str, name: &str) -> Result<(), AllocError>
-    ensures { OnOk result (string_bytes label.new ≡ prefix.now ++ name.now) }
+// The number of a new net that no name finds. It is called by the prefix and the name, which stands behind it for a while.
+fn fresh_behind(maker: &mut Namer<'_>, prefix: &mut String, name: &[u8]) -> Result<u32, NetFault>
+    requires { IsPrinting name.now }
+    ensures prefix { string_bytes prefix.new ≡ string_bytes prefix.old }
+    ensures number { IfOk result (λ n. n ≡ nets maker.old) }
+    ensures made { OnOk result (maker.new ≡ with_label maker.old (string_bytes prefix.old ++ name.now) false) }
+    ensures room { OnOk result (IsFull maker.old → ⊥) }
+    ensures full { IsErrOf result NetFault.TooManyNets → IsFull maker.old }
+    ensures only { IfErr result (λ fault. (fault ≡ NetFault.TooManyNets) ⊎ (fault ≡ NetFault.OutOfMemory)) }
 {
-    label.clear();
-    label.push_str(prefix)?;
-    label.push_str(name)?;
-    Ok(())
+    let size = prefix.len();
+    prefix.push_str(text_of(name))?;
+    let made = maker.fresh(prefix.as_str());
+    prefix.truncate(size);
+    made
 }
 
 // The number of the net of a new name in an instance with this prefix, which is made.
 fn add_inside(
-    label: &mut String,
     maker: &mut Namer<'_>,
-    prefix: &str,
+    prefix: &mut String,
     numbers: &mut KnownNames,
     name: &[u8],
 ) -> Result<u32, FlatFault>
     requires name { IsToken name.now }
+    requires place { HasPlace numbers.old name.now }
     requires new { known_in numbers.old name.now ≡ None }
+    ensures prefix { string_bytes prefix.new ≡ string_bytes prefix.old }
     ensures number { IfOk result (λ n. known_in numbers.new name.now ≡ Some n) }
-    ensures made { (i : ℕ) → OnOk result (local_step (state_with maker.old i (Inside prefix.now (known_in numbers.old))) (Mention name.now) ≡ Ok (state_with maker.new i (Inside prefix.now (known_in numbers.new)))) }
-    ensures fault { (i : ℕ) → IfErr result (IsFaultOf (local_step (state_with maker.old i (Inside prefix.now (known_in numbers.old))) (Mention name.now))) }
+    ensures made { (i : ℕ) → OnOk result (local_step (state_with maker.old i (Inside (string_bytes prefix.old) (known_in numbers.old))) (Mention name.now) ≡ Ok (state_with maker.new i (Inside (string_bytes prefix.old) (known_in numbers.new)))) }
+    ensures fault { (i : ℕ) → IfErr result (IsFaultOf (local_step (state_with maker.old i (Inside (string_bytes prefix.old) (known_in numbers.old))) (Mention name.now))) }
 {
-    write_label(label, prefix, text_of(name))?;
-    let number = match maker.fresh(label.as_str()) {
+    let number = match fresh_behind(maker, prefix, name) {
         Ok(number) => number,
         Err(fault) => return Err(fault_of(fault)),
     };
@@ -76,20 +84,20 @@ fn add_inside(
 
 // The number of the net of a name in an instance with this prefix, which is made if it is new.
 fn mention_inside(
-    label: &mut String,
     maker: &mut Namer<'_>,
-    prefix: &str,
+    prefix: &mut String,
     numbers: &mut KnownNames,
     name: &[u8],
 ) -> Result<u32, FlatFault>
     requires { IsToken name.now }
+    ensures prefix { string_bytes prefix.new ≡ string_bytes prefix.old }
     ensures number { IfOk result (λ n. known_in numbers.new name.now ≡ Some n) }
-    ensures made { (i : ℕ) → OnOk result (local_step (state_with maker.old i (Inside prefix.now (known_in numbers.old))) (Mention name.now) ≡ Ok (state_with maker.new i (Inside prefix.now (known_in numbers.new)))) }
-    ensures fault { (i : ℕ) → IfErr result (IsFaultOf (local_step (state_with maker.old i (Inside prefix.now (known_in numbers.old))) (Mention name.now))) }
+    ensures made { (i : ℕ) → OnOk result (local_step (state_with maker.old i (Inside (string_bytes prefix.old) (known_in numbers.old))) (Mention name.now) ≡ Ok (state_with maker.new i (Inside (string_bytes prefix.old) (known_in numbers.new)))) }
+    ensures fault { (i : ℕ) → IfErr result (IsFaultOf (local_step (state_with maker.old i (Inside (string_bytes prefix.old) (known_in numbers.old))) (Mention name.now))) }
 {
     match numbers.get(name) {
         Some(number) => Ok(number),
-        None => add_inside(label, maker, prefix, numbers, name),
+        None => add_inside(maker, prefix, numbers, name),
     }
 }
 
@@ -109,7 +117,6 @@ impl<'a> Walker<'a> {
                 numbers: KnownNames::new(alloc, key),
             },
             inputs: Vec::new(alloc),
-            label: String::new(alloc),
             kept: Kept::new(alloc),
         }
     }
@@ -136,9 +143,8 @@ impl<'a> Walker<'a> {
             self.maker.mention(name)
         } else {
             mention_inside(
-                &mut self.label,
                 &mut self.maker,
-                &self.scope.prefix,
+                &mut self.scope.prefix,
                 &mut self.scope.numbers,
                 name,
             )

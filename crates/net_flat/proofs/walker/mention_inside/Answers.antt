@@ -1,5 +1,5 @@
 use Rattle.std.proofs.Common.{◌≡◌, ◌∙◌, ap, sym, subst, ℕ, Ok}
-use Rattle.std.specs.Prelude.{IfErr, OnOk}
+use Rattle.std.specs.Prelude.{IfErr, OnOk, string_bytes}
 use Rattle.net_blif.specs.Table.{Numbers}
 use Rattle.net_flat.specs.Steps.{Mention}
 use Rattle.net_flat.specs.private.KnownNumbers.{known_in}
@@ -14,10 +14,10 @@ returns-in-Some-clause-number c = ap (λ (f : Numbers). f c.args.name.now) c.get
 
 pub returns-in-None-clause-made : goal.returns-in-None-clause-made
 returns-in-None-clause-made c =
-    let P : Numbers → Type 0 = λ f. (i : ℕ) → OnOk c.add_inside.result (local_step (state_with c.args.maker.now i (Inside c.args.prefix.now f)) (Mention c.args.name.now) ≡ Ok (state_with c.add_inside.new.maker i (Inside c.args.prefix.now (known_in c.add_inside.new.numbers)))) in
+    let P : Numbers → Type 0 = λ f. (i : ℕ) → OnOk c.add_inside.result (local_step (state_with c.args.maker.now i (Inside (string_bytes c.args.prefix.now) f)) (Mention c.args.name.now) ≡ Ok (state_with c.add_inside.new.maker i (Inside (string_bytes c.args.prefix.now) (known_in c.add_inside.new.numbers)))) in
     subst P c.get.ensures.kept c.add_inside.ensures.made
 
 pub returns-in-None-clause-fault : goal.returns-in-None-clause-fault
 returns-in-None-clause-fault c =
-    let P : Numbers → Type 0 = λ f. (i : ℕ) → IfErr c.add_inside.result (IsFaultOf (local_step (state_with c.args.maker.now i (Inside c.args.prefix.now f)) (Mention c.args.name.now))) in
+    let P : Numbers → Type 0 = λ f. (i : ℕ) → IfErr c.add_inside.result (IsFaultOf (local_step (state_with c.args.maker.now i (Inside (string_bytes c.args.prefix.now) f)) (Mention c.args.name.now))) in
     subst P c.get.ensures.kept c.add_inside.ensures.fault
