@@ -1,14 +1,15 @@
 -- Equal terms of a list that are added up.
-use Rattle.std.proofs.Common.{Result, Ok, Err, OnOk, OnErr, take, drop, take_all, append-nil, drop_of_length-le, arith, ◌≡◌, ℕ, zero, suc, ◌==◌, Bool, true, false, cond, not, List, [], ◌∷◌, ◌++◌, length, bit_xor, Some, refl, sym, ◌∙◌, ap, subst}
+use Rattle.std.proofs.Common.{Result, Ok, Err, OnOk, OnErr, take, drop, take_all, append-nil, drop_of_length-le, arith, ◌≡◌, ℕ, zero, suc, ◌==◌, Bool, true, false, cond, not, List, [], ◌∷◌, ◌++◌, length, bit_xor, Some, refl, sym, ◌∙◌, ap, subst, nat_eq, ◌||◌}
 use Rattle.std.specs.Prelude.{slice_get, slice_set}
 use lib.Bits.{xor_zero_l, xor_zero_r, xor_assoc, xor_comm, xor_self}
-use Rattle.std.specs.List.{AllByRecursion, filter}
-use Rattle.std.proofs.lemmas.Bool.{eqb-true, eqb-false}
+use Rattle.std.specs.List.{AllByRecursion, filter, list_any}
+use Rattle.std.proofs.lemmas.Bool.{eqb-true, eqb-false, true_from_ne_false}
 use Rattle.lists.specs.laws.OptionLaws.{same_some}
-use Rattle.poly_mixed.specs.Monomial.{Monomial, text_cmp}
+use Rattle.poly_mixed.specs.Monomial.{Monomial, has_bit, text_cmp}
 use Rattle.poly_mixed.specs.Polynomial.{Terms}
-use Rattle.poly_mixed.specs.Cofactor.{cofactors, lacking}
+use Rattle.poly_mixed.specs.Cofactor.{cofactors, lacking, without_bit}
 use Rattle.poly_mixed.proofs.SumLemmas.{at_additive}
+use Rattle.rato_reduce.specs.private.CutTerms.{of_bits}
 use Rattle.rato_reduce.specs.private.Buckets.{at_monomial, coefficient_in, ArePlaced, AreTaken, HaveSameSum, IsLine, IsPlaced}
 
 -- the terms at two indices are of the same product
@@ -157,6 +158,34 @@ taken_out rank lines mid part old sums each none part_is others = record {
   part_is = part_is ∙ ap (λ us. us ++ cofactors rank mid) none;
   no_others = others;
 }
+
+-- ---- one term without a bit
+
+-- the bits but one
+abbrev pub bits_but : ℕ → List ℕ → List ℕ
+bits_but rank bits = filter (λ r. not (nat_eq r rank)) bits
+
+pub bits_but_first : (rank r : ℕ) (bits : List ℕ) → bits_but rank (r ∷ bits) ≡ bits_but rank (r ∷ []) ++ bits_but rank bits
+bits_but_first rank r bits = elim (nat_eq r rank) as (λ b. cond (not b) (r ∷ bits_but rank bits) (bits_but rank bits) ≡ cond (not b) (r ∷ []) [] ++ bits_but rank bits) [ true ↦ refl | false ↦ refl ]
+
+all_stay : (rank : ℕ) (bits : List ℕ) → list_any (λ r. nat_eq r rank) bits ≡ false → length (bits_but rank bits) ≡ length bits
+all_stay rank [] none = refl
+all_stay rank (r ∷ bits) none =
+    elim (nat_eq r rank) as (λ b. (b || list_any (λ r. nat_eq r rank) bits) ≡ false → length (cond (not b) (r ∷ bits_but rank bits) (bits_but rank bits)) ≡ length (r ∷ bits)) [
+      | true ↦ λ e. (let bad : true ≡ false = e in absurd (cc))
+      | false ↦ λ e. ap suc (all_stay rank bits e)
+    ] none
+
+-- a term that is shorter without the bit has it
+module _ (rank c : ℕ) (bits : List ℕ) (shorter : length (bits_but rank bits) ≡ length bits → ⊥) where
+  has : has_bit rank (of_bits bits) ≡ true
+  has = true_from_ne_false (list_any (λ r. nat_eq r rank) bits) (λ none. shorter (all_stay rank bits none))
+
+  pub taken_line : cofactors rank ((of_bits bits, c) ∷ []) ≡ (of_bits (bits_but rank bits), c) ∷ []
+  taken_line = ap (λ b. cond b ((without_bit rank (of_bits bits), c) ∷ []) []) has
+
+  pub no_other_line : lacking rank ((of_bits bits, c) ∷ []) ≡ []
+  no_other_line = ap (λ b. cond (not b) ((of_bits bits, c) ∷ []) []) has
 
 -- a list that is written whole
 pub refilled : {A : Type 0} (old new : List A) (n : ℕ) → length new ≡ length old → n ≡ length old → take n (new ++ drop (length new) old) ≡ new

@@ -12,10 +12,12 @@ mod CutSizeLemmas
 mod CutBitLemmas
 mod CutPartLemmas
 mod ConstantLemmas
+mod LineLemmas
 mod ProductLemmas
 mod RetainedLemmas
 mod AddedLemmas
 mod RowLemmas
 mod BucketLemmas
 mod LevelLemmas
+mod PairLemmas
 mod SilentLemmas

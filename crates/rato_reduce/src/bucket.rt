@@ -1,17 +1,21 @@
 //! Terms in no order.
 ghost use Rattle.std.specs.Prelude.{◌≡◌, ◌++◌, ◌∷◌, ℕ, List, [], length, not, nat_eq, IfOk, OnOk, OnErr};
-ghost use Rattle.std.specs.List.{AllByRecursion, list_any};
+ghost use Rattle.std.specs.List.{AllByRecursion, filter};
 ghost use Rattle.poly_mixed.specs.Cofactor.{cofactors, lacking};
+ghost use Rattle.rato_reduce.specs.declared.row.Row.{Row};
 ghost use Rattle.rato_reduce.specs.private.CutTerms.{of_bits};
 ghost use Rattle.rato_reduce.specs.private.Buckets.{AreTaken, HaveSameSum, IsLine};
 ghost use Rattle.rato_reduce.specs.private.Rows.{lines_of, IsInside};
 
 use crate::merge::merge_rows;
-use crate::room::leave_out;
 use crate::row::{Row, bits_of, hash_of};
 use crate::stop::Stop;
 use std::alloc::{AllocError, Global};
 use std::marker::Model;
+use std::mem::swap;
+
+// The memory of more rows or ranks is not kept for others.
+const SMALL: usize = 64;
 
 /// Terms in no order, whose bits stand one behind the other in one list; one product of bits may stand more than once. If
 /// there are `merged` of them, equal ones were added up as far as a few looks find them.
@@ -77,6 +81,27 @@ impl Bucket {
         push_row(&mut self.ranks, &mut self.rows, bits, hash, coefficient)
     }
 
+    // Adds one more term of all of these bits but one, and gives how many bits it has.
+    fn push_without(
+        &mut self,
+        bits: &[u32],
+        rank: u32,
+        hash: u64,
+        coefficient: u64,
+    ) -> Result<usize, AllocError>
+        ensures pushed { OnOk result (self.new ≡ self.old ++ (of_bits (filter (λ r. not (nat_eq r rank)) bits.now), coefficient) ∷ []) }
+        ensures few { IfOk result (λ n. n ≡ length (filter (λ r. not (nat_eq r rank)) bits.now)) }
+    {
+        push_rest(
+            &mut self.ranks,
+            &mut self.rows,
+            bits,
+            rank,
+            hash,
+            coefficient,
+        )
+    }
+
     /// Adds up equal terms that a few looks find, which are most of them.
     pub fn merge(&mut self, alloc: Global) -> Result<(), AllocError>
         ensures sums { OnOk result (HaveSameSum self.old self.new) }
@@ -104,30 +129,34 @@ impl Bucket {
         Ok(())
     }
 
+    /// Takes the memory of a spare one in exchange for its own, if no terms stand here. Those of the spare one are let go.
+    pub fn take_memory(&mut self, spare: &mut Bucket)
+        ensures { self.new ≡ self.old }
+    {
+        if self.len() == 0 {
+            self.clear();
+            spare.clear();
+            swap(self, spare);
+        }
+    }
+
+    /// Whether its memory is small enough to be kept for others.
+    pub fn is_small(&self) -> bool {
+        self.rows.capacity() <= SMALL && self.ranks.capacity() <= SMALL
+    }
+
     // Whether nothing came since equal terms were added up.
     fn is_merged(&self) -> bool {
         self.rows.len() < 2 || self.rows.len() == self.merged
     }
 
     /// Puts the terms without the bit into the part, which is empty, after equal ones were added up; each has to have it.
-    pub fn take_out(
-        mut self,
-        alloc: Global,
-        rank: u32,
-        part: &mut Bucket,
-        room: &mut Vec<u32>,
-    ) -> Result<(), Stop>
+    pub fn take_out(&mut self, alloc: Global, rank: u32, part: &mut Bucket) -> Result<(), Stop>
         requires { part.old ≡ [] }
-        ensures { OnOk result (AreTaken rank self part.new) }
+        ensures { OnOk result (AreTaken rank self.old part.new) }
     {
         self.merge(alloc)?;
-        take_each(
-            self.ranks.as_slice(),
-            self.rows.as_slice(),
-            rank,
-            part,
-            room,
-        )
+        take_each(self.ranks.as_slice(), self.rows.as_slice(), rank, part)
     }
 }
 
@@ -176,46 +205,76 @@ fn push_row(
     Ok(())
 }
 
-// Whether the rank is among these.
-fn has(ranks: &[u32], rank: u32) -> bool
-    ensures { result ≡ list_any (λ r. nat_eq r rank) ranks.now }
+// Adds a rank to the end of a list of ranks, unless it is this one. The bits of rows stay where they are.
+fn add_unless(ranks: &mut Vec<u32>, r: u32, rank: u32) -> Result<(), AllocError>
+    ensures added { OnOk result (ranks.new.items ≡ ranks.old.items ++ filter (λ s. not (nat_eq s rank)) (r ∷ [])) }
+    ensures inside { (rows : List Row) → AllByRecursion (IsInside ranks.old.items) rows → AllByRecursion (IsInside ranks.new.items) rows }
 {
-    ranks.contains(&rank)
+    if r == rank {
+        return Ok(());
+    }
+    ranks.push(r)?;
+    Ok(())
+}
+
+// Adds all of these bits but one to the end of a list of ranks. The bits of rows stay where they are.
+fn add_rest(ranks: &mut Vec<u32>, bits: &[u32], rank: u32) -> Result<(), AllocError>
+    ensures added { OnOk result (ranks.new.items ≡ ranks.old.items ++ filter (λ r. not (nat_eq r rank)) bits.now) }
+    ensures inside { (rows : List Row) → AllByRecursion (IsInside ranks.old.items) rows → AllByRecursion (IsInside ranks.new.items) rows }
+{
+    for r in bits {
+        add_unless(ranks, *r, rank)?;
+    }
+    Ok(())
+}
+
+// Adds one more row of all of these bits but one, and gives how many bits it has.
+fn push_rest(
+    ranks: &mut Vec<u32>,
+    rows: &mut Vec<Row>,
+    bits: &[u32],
+    rank: u32,
+    hash: u64,
+    coefficient: u64,
+) -> Result<usize, AllocError>
+    requires { AllByRecursion (IsInside ranks.old.items) rows.old.items }
+    ensures inside { AllByRecursion (IsInside ranks.new.items) rows.new.items }
+    ensures pushed { OnOk result (lines_of ranks.new.items rows.new.items ≡ lines_of ranks.old.items rows.old.items ++ (of_bits (filter (λ r. not (nat_eq r rank)) bits.now), coefficient) ∷ []) }
+    ensures few { IfOk result (λ n. n ≡ length (filter (λ r. not (nat_eq r rank)) bits.now)) }
+{
+    let start = ranks.len();
+    add_rest(ranks, bits, rank)?;
+    let stop = ranks.len();
+    rows.push(Row {
+        start,
+        stop,
+        hash,
+        coefficient,
+    })?;
+    Ok(stop.saturating_sub(start))
 }
 
 // Puts a term into the part, without the bit, which it has to have.
-fn take_one(
-    ranks: &[u32],
-    row: &Row,
-    rank: u32,
-    part: &mut Bucket,
-    room: &mut Vec<u32>,
-) -> Result<(), Stop>
+fn take_one(ranks: &[u32], row: &Row, rank: u32, part: &mut Bucket) -> Result<(), Stop>
     ensures part { OnOk result (part.new ≡ part.old ++ cofactors rank (lines_of ranks.now (row.now ∷ []))) }
     ensures others { OnOk result (lacking rank (lines_of ranks.now (row.now ∷ [])) ≡ []) }
 {
     let bits = bits_of(ranks, row);
-    if !has(bits, rank) {
+    let all = bits.len();
+    let left = part.push_without(bits, rank, row.hash ^ hash_of(rank), row.coefficient)?;
+    if left == all {
         return Err(Stop::GivesUp);
     }
-    leave_out(room, bits, rank)?;
-    part.push(room.as_slice(), row.hash ^ hash_of(rank), row.coefficient)?;
     Ok(())
 }
 
 // Puts terms into the part, without the bit, which each has to have.
-fn take_each(
-    ranks: &[u32],
-    rows: &[Row],
-    rank: u32,
-    part: &mut Bucket,
-    room: &mut Vec<u32>,
-) -> Result<(), Stop>
+fn take_each(ranks: &[u32], rows: &[Row], rank: u32, part: &mut Bucket) -> Result<(), Stop>
     ensures part { OnOk result (part.new ≡ part.old ++ cofactors rank (lines_of ranks.now rows.now)) }
     ensures others { OnOk result (lacking rank (lines_of ranks.now rows.now) ≡ []) }
 {
     for row in rows {
-        take_one(ranks, row, rank, part, room)?;
+        take_one(ranks, row, rank, part)?;
     }
     Ok(())
 }

@@ -6,7 +6,7 @@ ghost use Rattle.std.specs.Ordering.{nat_cmp};
 ghost use Rattle.poly_mixed.specs.Cofactor.{cofactors, lacking};
 ghost use Rattle.poly_mixed.specs.Monomial.{text_cmp};
 ghost use Rattle.poly_mixed.specs.Sum.{plus, plus_term};
-ghost use Rattle.rato_reduce.specs.private.Buckets.{joined, level_at, AreOut, AreUpTo, HasTermAt, IsCounted, IsMerged, IsMergedAt, StayLevelled};
+ghost use Rattle.rato_reduce.specs.private.Buckets.{joined, level_at, AreOut, AreUpTo, HasTermAt, AreTaken, IsCounted, IsMerged, IsMergedAt, StayLevelled};
 ghost use Rattle.rato_reduce.specs.private.CutTerms.{of_bits, IsBitTerm};
 ghost use Rattle.rato_reduce.specs.private.Rows.{lines_of};
 
@@ -23,11 +23,13 @@ const MERGES: u32 = 64;
 
 /// A polynomial in bits, whose terms stand in lists by the greatest level of their bits: those with the bit that is eliminated
 /// first stand in the last list. `places` has the place of each rank in the order of elimination. Equal terms stand apart until
-/// their list is taken or merged; the count is that of all, and once it is at its end it says nothing.
+/// their list is taken or merged; the count is that of all, and once it is at its end it says nothing. The memory of a short list
+/// that was taken is kept for the next one that gets a term.
 #[derive(Drop)]
 pub struct Buckets {
     places: Vec<u32>,
     list: Vec<Bucket>,
+    spare: Bucket,
     count: u64,
     merges: u32,
     alloc: Global,
@@ -52,6 +54,7 @@ impl Buckets {
         Buckets {
             places,
             list: Vec::new(alloc),
+            spare: Bucket::new(alloc),
             count: 0,
             merges: 0,
             alloc,
@@ -98,17 +101,19 @@ impl Buckets {
     {
         raise(self.alloc, &mut self.list, level)?;
         self.count = more(self.count, 1);
-        push_at(self.list.as_mut_slice(), level, bits, hash, c)
+        push_at(
+            self.list.as_mut_slice(),
+            &mut self.spare,
+            level,
+            bits,
+            hash,
+            c,
+        )
     }
 
     /// Takes out the terms with the bit, and puts them, without it, in place of what `part` held. Equal ones may stand there
     /// apart. After a stop neither is used again.
-    pub fn take_with(
-        &mut self,
-        rank: u32,
-        part: &mut Bucket,
-        room: &mut Vec<u32>,
-    ) -> Result<(), Stop>
+    pub fn take_with(&mut self, rank: u32, part: &mut Bucket) -> Result<(), Stop>
         ensures left { OnOk result (self.new.terms ≡ lacking rank self.old.terms) }
         ensures part { OnOk result (plus text_cmp [] part.new ≡ cofactors rank self.old.terms) }
         ensures each { OnOk result (AllByRecursion IsBitTerm part.new) }
@@ -118,11 +123,11 @@ impl Buckets {
         take_last(
             self.alloc,
             &mut self.list,
+            &mut self.spare,
             &mut self.count,
             level,
             rank,
             part,
-            room,
         )
     }
 
@@ -203,11 +208,11 @@ fn pop_from(list: &mut Vec<Bucket>, level: usize) -> Option<Bucket>
 fn take_last(
     alloc: Global,
     list: &mut Vec<Bucket>,
+    spare: &mut Bucket,
     count: &mut u64,
     level: usize,
     rank: u32,
     part: &mut Bucket,
-    room: &mut Vec<u32>,
 ) -> Result<(), Stop>
     requires { part.old ≡ [] }
     ensures taken { OnOk result (AreOut rank list.old.items list.new.items part.new) }
@@ -222,8 +227,31 @@ fn take_last(
             if list.len() > level {
                 return Err(Stop::GivesUp);
             }
-            bucket.take_out(alloc, rank, part, room)
+            take_all(alloc, bucket, spare, rank, part)
         }
+    }
+}
+
+// Puts the terms of a list without the bit into the part; each has to have it. The list's memory is kept, if it is small.
+fn take_all(
+    alloc: Global,
+    mut bucket: Bucket,
+    spare: &mut Bucket,
+    rank: u32,
+    part: &mut Bucket,
+) -> Result<(), Stop>
+    requires { part.old ≡ [] }
+    ensures { OnOk result (AreTaken rank bucket part.new) }
+{
+    bucket.take_out(alloc, rank, part)?;
+    keep(spare, bucket);
+    Ok(())
+}
+
+// Keeps the memory of a list in place of another one's, if it is small.
+fn keep(spare: &mut Bucket, bucket: Bucket) {
+    if bucket.is_small() {
+        *spare = bucket;
     }
 }
 
@@ -272,13 +300,35 @@ fn raise(alloc: Global, list: &mut Vec<Bucket>, level: usize) -> Result<(), Allo
     Ok(())
 }
 
-// Adds a term to a list.
-fn push_at(list: &mut [Bucket], i: usize, bits: &[u32], hash: u64, c: u64) -> Result<(), AllocError>
+// Adds a term to the list at an index.
+fn push_at(
+    list: &mut [Bucket],
+    spare: &mut Bucket,
+    i: usize,
+    bits: &[u32],
+    hash: u64,
+    c: u64,
+) -> Result<(), AllocError>
     requires { i < length list.old }
     ensures pushed { OnOk result (HasTermAt list.old list.new i (of_bits bits.now, c)) }
     ensures kept { OnErr result (list.new ≡ list.old) }
 {
-    list[i].push(bits, hash, c)
+    push_to(&mut list[i], spare, bits, hash, c)
+}
+
+// Adds a term to a list, which may take the memory of a spare one.
+fn push_to(
+    bucket: &mut Bucket,
+    spare: &mut Bucket,
+    bits: &[u32],
+    hash: u64,
+    c: u64,
+) -> Result<(), AllocError>
+    ensures pushed { OnOk result (bucket.new ≡ bucket.old ++ (of_bits bits.now, c) ∷ []) }
+    ensures kept { OnErr result (bucket.new ≡ bucket.old) }
+{
+    bucket.take_memory(spare);
+    bucket.push(bits, hash, c)
 }
 
 // Adds up equal terms of a list, and gives the count after that.

@@ -1,5 +1,5 @@
 //! The polynomial of a cut.
-ghost use Rattle.std.specs.Prelude.{◌≡◌, ◌≢◌, ◌<◌, ℕ, List, ◌++◌, ◌∷◌, [], length, false, IfOk, OnOk, ◌↔◌, if◌then◌else◌};
+ghost use Rattle.std.specs.Prelude.{◌≡◌, ◌≢◌, ◌<◌, ℕ, List, ◌++◌, ◌∷◌, [], length, false, IfOk, IsFalse, IsTrue, OnOk, ◌↔◌, if◌then◌else◌};
 ghost use Rattle.std.specs.List.{AllByRecursion};
 ghost use Rattle.std.specs.List.Sorted.{IsStrictlySortedBy};
 ghost use Rattle.std.specs.Ordering.{nat_cmp};
@@ -8,7 +8,7 @@ ghost use Rattle.poly_mixed.specs.Monomial.{text_cmp};
 ghost use Rattle.poly_mixed.specs.Polynomial.{IsReduced, IsTerm};
 ghost use Rattle.poly_mixed.specs.Sum.{plus, plus_term, with_coefficient};
 ghost use Rattle.poly_mixed.specs.Product.{union, with_rank};
-ghost use Rattle.rato_reduce.specs.private.CutTerms.{of_bits, term_of, ends_up_to, products, AreBitEntries, IsBitTerm, IsTaken};
+ghost use Rattle.rato_reduce.specs.private.CutTerms.{of_bits, term_of, ends_up_to, products, AreBitEntries, HasSetsPutIn, IsBitTerm, IsTaken};
 ghost use Rattle.rato_reduce.specs.Monomials.{monomials};
 
 use crate::bit_term::BitTerm;
@@ -185,6 +185,26 @@ impl Cut {
         Ok(())
     }
 
+    /// Puts the sum of 1, if the form of a table of one bit has it, and of that bit in place of another bit, if this is the only
+    /// term with bits and the form has that bit.
+    pub fn put_line(&mut self, rank: u32, form: u64, by: u32) -> bool
+        ensures put { IsTrue result → HasSetsPutIn rank (monomials form [] (by ∷ []) 0 1) self.old.terms self.new.terms }
+        ensures kept { IsFalse result → self.new.terms ≡ self.old.terms }
+    {
+        let one = has_place(form, 0);
+        let bit = has_place(form, 1);
+        if !bit {
+            return false;
+        }
+        match self.map.exchange(self.places.as_slice(), rank, by) {
+            Some(c) => {
+                self.constant ^= chosen(c, one);
+                true
+            }
+            None => false,
+        }
+    }
+
     /// Takes out the terms with the bit, and puts them, without it, in place of what `part` held. It takes the time of the
     /// terms whose first place is not behind that of the bit. After running out of memory neither is used again.
     pub fn take_with(&mut self, rank: u32, part: &mut Vec<BitTerm>) -> Result<(), AllocError>
@@ -217,6 +237,13 @@ impl Cut {
         self.map.put_into(&mut sum)?;
         Ok(sum)
     }
+}
+
+// The coefficient, if it is to be added, and else 0.
+fn chosen(c: u64, added: bool) -> u64
+    ensures { result ≡ (if added then c else 0) }
+{
+    if added { c } else { 0 }
 }
 
 // The polynomial of a term without bits, which has none where the coefficient is 0.

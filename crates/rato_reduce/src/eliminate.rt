@@ -17,6 +17,7 @@ ghost use Rattle.rato_reduce.specs.Recorded.{IsGateRecorded};
 use crate::bit_term::{BitTerm, poly_of};
 use crate::cut::Cut;
 use crate::first_cut::rank;
+use crate::line::put_line;
 use crate::monomials::monomials as monomials_of;
 use crate::ranks::Ranks;
 use gf_field::Field;
@@ -151,9 +152,9 @@ fn tell<T: Steps>(
     steps.step(Generator::Net(net), &cofactor)
 }
 
-/// Puts a gate's table in place of its output, and hands the pair of the net and its cofactor to the recorder where the
-/// net stands in the polynomial. `part` is room for the terms with the net, whatever it holds.
-pub fn eliminate<F: Field, T: Steps>(
+// Puts a gate's table in place of its output, and hands the pair of the net and its cofactor to the recorder where the
+// net stands in the polynomial. `part` is room for the terms with the net, whatever it holds.
+fn put_gate<F: Field, T: Steps>(
     alloc: Global,
     field: &F,
     circuit: &Combinational,
@@ -176,4 +177,31 @@ pub fn eliminate<F: Field, T: Steps>(
     }
     tell(alloc, gate.out(), part, steps)?;
     add_table(alloc, field, circuit, gate, part, cut)
+}
+
+/// Puts a gate's table in place of its output, and hands the pair of the net and its cofactor to the recorder where the
+/// net stands in the polynomial. `part` is room for the terms with the net, whatever it holds.
+pub fn eliminate<F: Field, T: Steps>(
+    alloc: Global,
+    field: &F,
+    circuit: &Combinational,
+    gate: &Gate,
+    cut: &mut Cut,
+    part: &mut Vec<BitTerm>,
+    steps: &mut T,
+) -> Result<(), AllocError>
+    requires sound { IsSound circuit.now.net }
+    requires gate { Has circuit.now.net.gates gate.now }
+    requires cut { IsReduced (F.degree field.now) cut.old.terms }
+    ensures reduced { OnOk result (IsReduced (F.degree field.now) cut.new.terms) }
+    ensures values { OnOk result (HasGatePutIn (F.degree field.now) (F.product field.now) (bound_variables circuit.now) gate.now cut.old.terms cut.new.terms) }
+    ensures steps { OnOk result (IsGateRecorded (F.degree field.now) (bound_variables circuit.now) gate.now cut.old.terms (T.steps steps.old) (T.steps steps.new)) }
+{
+    if steps.tells() {
+        return put_gate(alloc, field, circuit, gate, cut, part, steps);
+    }
+    if put_line(field, circuit, gate, cut) {
+        return Ok(());
+    }
+    put_gate(alloc, field, circuit, gate, cut, part, steps)
 }

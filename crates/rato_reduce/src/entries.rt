@@ -6,7 +6,7 @@ ghost use Rattle.poly_mixed.specs.Monomial.{text_cmp};
 ghost use Rattle.poly_mixed.specs.Sum.{plus, plus_term};
 ghost use Rattle.rato_reduce.specs.private.CutKey.{key_cmp};
 ghost use Rattle.rato_reduce.specs.private.CutTerms.{ends_up_to, term_of, IsBitTerm};
-ghost use Rattle.rato_reduce.specs.private.EntryList.{only_or};
+ghost use Rattle.rato_reduce.specs.private.EntryList.{only_or, IsExchanged, IsOtherBit};
 
 use crate::buckets::Buckets;
 use crate::key::Key;
@@ -82,6 +82,15 @@ impl Entries {
             return self.one.take();
         }
         pop_from(&mut self.map, place)
+    }
+
+    /// Puts another bit in place of this one, if the only entry stands beside the map and is of this bit alone, and gives its
+    /// coefficient.
+    pub fn exchange(&mut self, places: &[u32], rank: u32, by: u32) -> Option<u64>
+        ensures some { IfSome result (λ c. IsExchanged places.now rank by c self.old.entries self.new.entries) }
+        ensures none { IfNone result (self.new.entries ≡ self.old.entries) }
+    {
+        exchange_in(&mut self.one, places, rank, by)
     }
 
     /// Adds the terms of all to a polynomial. After running out of memory it is not used again.
@@ -175,6 +184,23 @@ fn is_up_to(one: &Option<(Key, u64)>, place: u32) -> bool
     match one {
         Some((only, _)) => only.first() <= place,
         None => false,
+    }
+}
+
+// Puts another bit in place of this one, if there is an entry and it is of this bit alone, and gives its coefficient.
+fn exchange_in(one: &mut Option<(Key, u64)>, places: &[u32], rank: u32, by: u32) -> Option<u64>
+    ensures some { IfSome result (λ c. IsOtherBit places.now rank by c one.old one.new) }
+    ensures none { IfNone result (one.new ≡ one.old) }
+{
+    match one {
+        Some((key, c)) => {
+            if key.is_only(rank) {
+                key.set_only(places, by);
+                return Some(*c);
+            }
+            None
+        }
+        None => None,
     }
 }
 

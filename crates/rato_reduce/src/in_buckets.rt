@@ -59,7 +59,7 @@ fn add_form(
     if inputs.len() == 2 {
         let first = rank(circuit, inputs[0]);
         let second = rank(circuit, inputs[1]);
-        return add_all_pairs(alloc, cut, ranks, rows, form, first, second, room);
+        return add_all_pairs(cut, ranks, rows, form, first, second, room);
     }
     let list = input_ranks(alloc, circuit, gate)?;
     let sets = monomials_of(alloc, form, &list)?;
@@ -84,7 +84,7 @@ fn put_gate<F: Field>(
     ensures values { OnOk result (HasGatePutIn (F.degree _field.now) (F.product _field.now) (bound_variables circuit.now) gate.now cut.old.terms cut.new.terms) }
 {
     let rank = rank(circuit, gate.out());
-    cut.take_with(rank, part, room)?;
+    cut.take_with(rank, part)?;
     let form = exclusive_form(gate.table());
     add_form(alloc, circuit, gate, form, part, cut, room)?;
     Ok(())

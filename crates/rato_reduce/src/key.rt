@@ -1,5 +1,5 @@
 //! Keys of the terms of a cut.
-ghost use Rattle.std.specs.Prelude.{◌≡◌, refl};
+ghost use Rattle.std.specs.Prelude.{◌≡◌, ◌∷◌, [], length, refl, IsTrue};
 ghost use Rattle.std.specs.Cmp.{partial_order_from_total, partial_equiv_from_equiv, eq_by_cmp_equiv};
 ghost use Rattle.std.specs.Ordering.{eq_by_cmp, as_partial_cmp};
 ghost use Rattle.rato_reduce.specs.private.CutKey.{CutKey, place_at, first_from, hash_from, key_of, key_cmp, key_cmp_total};
@@ -48,6 +48,23 @@ impl Key {
         ensures { result.now ≡ self.now.bits }
     {
         &self.bits
+    }
+
+    /// Whether it is of this bit alone.
+    pub fn is_only(&self, rank: u32) -> bool
+        ensures { IsTrue result → self.now.bits ≡ rank ∷ [] }
+    {
+        self.bits.is_only(rank)
+    }
+
+    /// Makes that of one bit that of another.
+    pub fn set_only(&mut self, places: &[u32], rank: u32)
+        requires { length self.old.bits ≡ 1 }
+        ensures { self.new ≡ key_of places.now (rank ∷ []) }
+    {
+        self.bits.set_only(rank);
+        self.first = first_place(places, &[rank]);
+        self.hash = hash(&[rank]);
     }
 
     /// Its bits, of a key that is let go.

@@ -11,6 +11,7 @@ mod entries;
 mod first_cut;
 mod in_buckets;
 mod key;
+mod line;
 mod merge;
 mod monomials;
 mod products;

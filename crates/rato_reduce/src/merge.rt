@@ -24,13 +24,13 @@ fn first_look(table: &[usize], hash: u64) -> usize {
     (hash >> 32) as usize % table.len().saturating_sub(LOOKS).max(1)
 }
 
-// The index of a row with the bits of that at another index, if a few looks into the table find it. The table has at its
-// places 0, or the number of a row, counted from 1; which of them it has decides how many rows are found, and nothing else.
-fn find(ranks: &[u32], rows: &[Row], table: &[usize], i: usize, hash: u64) -> Option<usize>
+// The index of a row with the bits of that at another index, if a few looks into the table from a place on find it. The table has
+// at its places 0, or the number of a row, counted from 1; which of them it has decides how many rows are found, and nothing else.
+fn find(ranks: &[u32], rows: &[Row], table: &[usize], first: usize, i: usize) -> Option<usize>
     requires { i < length rows.now }
     ensures { IfSome result (λ index. HaveSameBits ranks.now rows.now index i) }
 {
-    let mut place = first_look(table, hash);
+    let mut place = first;
     for _ in 0..LOOKS {
         let number = match table.get(place) {
             Some(number) => *number,
@@ -47,9 +47,9 @@ fn find(ranks: &[u32], rows: &[Row], table: &[usize], i: usize, hash: u64) -> Op
     None
 }
 
-// Puts the number of a row into the table, if a few looks find an empty place.
-fn note(table: &mut [usize], hash: u64, number: usize) {
-    let mut place = first_look(table, hash);
+// Puts the number of a row into the table, if a few looks from a place on find an empty one.
+fn note(table: &mut [usize], first: usize, number: usize) {
+    let mut place = first;
     for _ in 0..LOOKS {
         match table.get_mut(place) {
             Some(there) => {
@@ -95,10 +95,10 @@ fn add_one(ranks: &[u32], rows: &mut [Row], table: &mut [usize], i: usize)
     ensures same { AreAddedUp ranks.now rows.old rows.new }
     ensures long { length rows.new ≡ length rows.old }
 {
-    let hash = rows[i].hash;
-    match find(ranks, rows, table, i, hash) {
+    let first = first_look(table, rows[i].hash);
+    match find(ranks, rows, table, first, i) {
         Some(index) => move_to(ranks, rows, index, i),
-        None => note(table, hash, i + 1),
+        None => note(table, first, i + 1),
     }
 }
 

@@ -1,5 +1,5 @@
 //! Lists of ranks of bits.
-ghost use Rattle.std.specs.Prelude.{◌≡◌, ◌<◌, ◌≤◌, ◌==◌, ◌++◌, [], not, nat_eq, length, take, drop, slice_index, IfOk, OnOk};
+ghost use Rattle.std.specs.Prelude.{◌≡◌, ◌<◌, ◌≤◌, ◌==◌, ◌++◌, ◌∷◌, [], not, nat_eq, length, take, drop, slice_index, IfOk, IsTrue, OnOk};
 ghost use Rattle.std.specs.List.{filter, list_any};
 ghost use Rattle.poly_mixed.specs.Product.{with_rank, union};
 
@@ -61,6 +61,25 @@ impl Ranks {
         self.items.as_slice().contains(&rank)
     }
 
+    /// Whether it is this one alone.
+    pub fn is_only(&self, rank: u32) -> bool
+        ensures { IsTrue result → self.now ≡ rank ∷ [] }
+    {
+        let ranks = self.items.as_slice();
+        if ranks.len() == 1 {
+            return ranks[0] == rank;
+        }
+        false
+    }
+
+    /// Puts another one in place of the only one.
+    pub fn set_only(&mut self, rank: u32)
+        requires { length self.old ≡ 1 }
+        ensures { self.new ≡ rank ∷ [] }
+    {
+        set_first(self.items.as_mut_slice(), rank);
+    }
+
     /// The ranks of both; these are rising.
     pub fn union(&self, other: &Ranks) -> Result<Ranks, AllocError>
         ensures { IfOk result (λ r. r ≡ union self.now other.now) }
@@ -90,6 +109,14 @@ impl Ranks {
         self.items.retain(|r| *r != rank);
         self
     }
+}
+
+// Puts a rank in place of the only one.
+fn set_first(items: &mut [u32], rank: u32)
+    requires { length items.old ≡ 1 }
+    ensures { items.new ≡ rank ∷ [] }
+{
+    items[0] = rank;
 }
 
 fn add_rank(items: &mut SmallVec<u32, 16>, r: u32) -> Result<(), AllocError>

@@ -6,6 +6,9 @@ ghost use Rattle.stage_model.specs.Cut.{BoundCut};
 ghost use Rattle.stage_model.specs.CircuitListing.{bound_cuts};
 ghost use Rattle.stage_model.specs.Listing.{AreAllWithin, IsRefusal};
 ghost use Rattle.stage_model.specs.Stage.{IsOfStage};
+ghost use Rattle.net_words.specs.BoundTo.{output_bits};
+ghost use Rattle.poly_mixed.specs.Polynomial.{IsPolynomialOf};
+ghost use Rattle.rato_reduce.specs.BoundVariables.{sum_of_ones};
 ghost use Rattle.rato_reduce.specs.Recorded.{AreAllRecorded};
 
 use crate::cut::Cut;
@@ -44,6 +47,83 @@ fn check_size(cut: &Cut, bound: u32, number: u32) -> Result<(), ReduceFault>
     Ok(())
 }
 
+// The first cut, if it is not over the bound.
+fn small_first_cut<F: Field>(
+    alloc: Global,
+    field: &F,
+    circuit: &Combinational,
+    output: &Basis,
+    order: &[u32],
+    bound: u32,
+) -> Result<Cut, ReduceFault>
+    requires bits { circuit.now.binding.k ≡ F.degree field.now }
+    requires basis { IsBasisOver (F.degree field.now) (F.product field.now) output.now }
+    requires order { IsElimination circuit.now.net order.now }
+    ensures first { IfOk result (λ q. IsPolynomialOf (F.degree field.now) (F.product field.now) (sum_of_ones circuit.now (elements_of output.now) (output_bits circuit.now.binding.words)) q.terms) }
+    ensures within { IfOk result (λ q. length q.terms ≤ bound) }
+    ensures fault { IfErr result (IsRefusal (F.degree field.now) (F.product field.now) (bound_cuts circuit.now (elements_of output.now)) bound) }
+{
+    let list = output_nets(alloc, circuit.binding())?;
+    let places = places(alloc, circuit, order)?;
+    let cut = first_cut(alloc, field, circuit, output, &list, places)?;
+    check_size(&cut, bound, 0)?;
+    Ok(cut)
+}
+
+// The polynomial of the last cut, with the terms of each in an ordered map.
+fn reduce_in_map<F: Field, T: Steps>(
+    alloc: Global,
+    field: &F,
+    circuit: &Combinational,
+    output: &Basis,
+    order: &[u32],
+    bound: u32,
+    steps: &mut T,
+) -> Result<Poly, ReduceFault>
+    requires bits { circuit.now.binding.k ≡ F.degree field.now }
+    requires basis { IsBasisOver (F.degree field.now) (F.product field.now) output.now }
+    requires order { IsElimination circuit.now.net order.now }
+    ensures last { IfOk result (λ q. IsOfStage (F.degree field.now) (F.product field.now) (BoundCut circuit.now (elements_of output.now) (length circuit.now.net.gates)) q.terms) }
+    ensures within { OnOk result (AreAllWithin (F.degree field.now) (F.product field.now) (bound_cuts circuit.now (elements_of output.now)) bound) }
+    ensures fault { IfErr result (IsRefusal (F.degree field.now) (F.product field.now) (bound_cuts circuit.now (elements_of output.now)) bound) }
+    ensures steps { OnOk result (AreAllRecorded (F.degree field.now) (F.product field.now) circuit.now (elements_of output.now) (T.steps steps.old) (T.steps steps.new)) }
+{
+    let net = circuit.net();
+    let mut cut = small_first_cut(alloc, field, circuit, output, order, bound)?;
+    let mut part = Vec::new(alloc);
+    for t in 0..order.len() {
+        let gate = &net.gates()[order[t] as usize];
+        eliminate(alloc, field, circuit, gate, &mut cut, &mut part, steps)?;
+        check_size(&cut, bound, t as u32 + 1)?;
+    }
+    let poly = cut.to_poly()?;
+    Ok(poly)
+}
+
+// The same in buckets, if that is seen to be within the bound, and else in a map.
+fn reduce_in_order<F: Field, T: Steps>(
+    alloc: Global,
+    field: &F,
+    circuit: &Combinational,
+    output: &Basis,
+    order: &[u32],
+    bound: u32,
+    steps: &mut T,
+) -> Result<Poly, ReduceFault>
+    requires bits { circuit.now.binding.k ≡ F.degree field.now }
+    requires basis { IsBasisOver (F.degree field.now) (F.product field.now) output.now }
+    requires order { IsElimination circuit.now.net order.now }
+    ensures last { IfOk result (λ q. IsOfStage (F.degree field.now) (F.product field.now) (BoundCut circuit.now (elements_of output.now) (length circuit.now.net.gates)) q.terms) }
+    ensures within { OnOk result (AreAllWithin (F.degree field.now) (F.product field.now) (bound_cuts circuit.now (elements_of output.now)) bound) }
+    ensures fault { IfErr result (IsRefusal (F.degree field.now) (F.product field.now) (bound_cuts circuit.now (elements_of output.now)) bound) }
+    ensures steps { OnOk result (AreAllRecorded (F.degree field.now) (F.product field.now) circuit.now (elements_of output.now) (T.steps steps.old) (T.steps steps.new)) }
+{
+    if let Some(found) = reduce_in_buckets(alloc, field, circuit, output, order, bound, &*steps)? {
+        return Ok(found);
+    }
+    reduce_in_map(alloc, field, circuit, output, order, bound, steps)
+}
+
 /// The polynomial of the output word's element in the bits of the primary inputs: that of the last cut.
 ///
 /// The gates are eliminated one by one, from the greatest level to the least and within a level from the greatest position
@@ -69,19 +149,5 @@ pub fn reduce_bits<F: Field, T: Steps>(
 {
     let net = circuit.net();
     let order = elimination(alloc, net)?;
-    if let Some(found) = reduce_in_buckets(alloc, field, circuit, output, &order, bound, &*steps)? {
-        return Ok(found);
-    }
-    let list = output_nets(alloc, circuit.binding())?;
-    let places = places(alloc, circuit, &order)?;
-    let mut cut = first_cut(alloc, field, circuit, output, &list, places)?;
-    check_size(&cut, bound, 0)?;
-    let mut part = Vec::new(alloc);
-    for t in 0..order.len() {
-        let gate = &net.gates()[order[t] as usize];
-        eliminate(alloc, field, circuit, gate, &mut cut, &mut part, steps)?;
-        check_size(&cut, bound, t as u32 + 1)?;
-    }
-    let poly = cut.to_poly()?;
-    Ok(poly)
+    reduce_in_order(alloc, field, circuit, output, &order, bound, steps)
 }

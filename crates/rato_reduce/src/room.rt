@@ -1,6 +1,5 @@
 //! Room for the bits of one term.
-ghost use Rattle.std.specs.Prelude.{◌≡◌, OnOk, not, nat_eq};
-ghost use Rattle.std.specs.List.{filter};
+ghost use Rattle.std.specs.Prelude.{◌≡◌, OnOk};
 ghost use Rattle.poly_mixed.specs.Product.{with_rank, union};
 
 use crate::ranks::place_of;
@@ -30,17 +29,4 @@ fn add_rank(room: &mut Vec<u32>, rank: u32) -> Result<u64, AllocError>
     }
     room.insert(i, rank)?;
     Ok(hash_of(rank))
-}
-
-/// Puts all ranks but one in place of what was there.
-pub fn leave_out(room: &mut Vec<u32>, ranks: &[u32], rank: u32) -> Result<(), AllocError>
-    ensures { OnOk result (room.new.items ≡ filter (λ r. not (nat_eq r rank)) ranks.now) }
-{
-    room.clear();
-    for r in ranks {
-        if *r != rank {
-            room.push(*r)?;
-        }
-    }
-    Ok(())
 }

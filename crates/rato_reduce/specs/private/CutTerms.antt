@@ -76,3 +76,10 @@ products t (n ∷ ns) = (of_bits (union t.0.bits n), t.1) ∷ products t ns
 abbrev pub all_products : Terms → List (List ℕ) → Terms
 all_products [] ns = []
 all_products (t ∷ ts) ns = products t ns ++ all_products ts ns
+
+-- new is what old has without the bit, and the products of the terms with it, without it, and of each of these sets of bits
+pub record HasSetsPutIn (rank : ℕ) (sets : List (List ℕ)) (old new : Terms) : Type 0 where
+  pub part : Terms
+  pub each : AllByRecursion IsBitTerm part
+  pub part_is : plus text_cmp [] part ≡ cofactors rank old
+  pub new_is : new ≡ plus text_cmp (lacking rank old) (all_products part sets)
