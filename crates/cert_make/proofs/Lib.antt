@@ -1,4 +1,5 @@
 pub mod SameLemmas
+pub mod KeyLemmas
 pub mod MarkLemmas
 pub mod SharingLemmas
 pub mod WrittenLemmas

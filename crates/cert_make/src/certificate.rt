@@ -3,18 +3,48 @@ ghost use Rattle.std.specs.Prelude.{◌≡◌, ◌++◌, ◌∷◌, ℕ, [], Lis
 ghost use Rattle.poly_mixed.specs.Steps.{Tells};
 ghost use Rattle.cert_make.specs.CertText.{cert_text};
 ghost use Rattle.cert_make.specs.Writable.{IsWritable};
+ghost use Rattle.cert_make.specs.private.Kept.{pair_of};
 
 use crate::lines::add_claim;
+use crate::only::only_term;
 use crate::pairs::add_pairs;
 use poly_mixed::{Generator, Labels, Poly, Steps, Term};
 use std::alloc::{AllocError, Global};
 use std::marker::Model;
 
-// A generator with the terms of its multiplier.
+// A generator with its multiplier: the coefficient and the bit of one term that has no more, and else the terms.
 #[derive(Drop)]
 pub(crate) struct Entry {
     pub(crate) generator: Generator,
+    // 0 where the terms are kept
+    pub(crate) coefficient: u64,
+    pub(crate) rank: Option<u32>,
     pub(crate) terms: Vec<Term>,
+}
+
+impl Entry {
+    // Of a polynomial.
+    fn new(alloc: Global, generator: Generator, multiplier: &Poly) -> Result<Entry, AllocError>
+        ensures { IfOk result (λ e. pair_of e ≡ (generator, multiplier.now.terms)) }
+    {
+        match only_term(multiplier) {
+            Some(form) => Ok(Entry {
+                generator,
+                coefficient: form.0,
+                rank: form.1,
+                terms: Vec::new(alloc),
+            }),
+            None => {
+                let terms = multiplier.terms(alloc)?;
+                Ok(Entry {
+                    generator,
+                    coefficient: 0,
+                    rank: None,
+                    terms,
+                })
+            }
+        }
+    }
 }
 
 /// Records steps and tells them: contracts see it as the list of its pairs.
@@ -71,8 +101,8 @@ impl Steps for Certificate {
         ensures recorded { OnOk result (self.new ≡ self.old ++ (generator, multiplier.now.terms) ∷ []) }
         ensures told { OnOk result (Tells (Some self.old) (Some self.new) ((generator, multiplier.now.terms) ∷ [])) }
     {
-        let terms = multiplier.terms(self.alloc)?;
-        self.entries.push(Entry { generator, terms })?;
+        let entry = Entry::new(self.alloc, generator, multiplier)?;
+        self.entries.push(entry)?;
         Ok(())
     }
 }

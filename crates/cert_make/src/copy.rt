@@ -1,19 +1,18 @@
-//! The text of terms that were kept.
-ghost use Rattle.std.specs.Prelude.{◌≡◌, ◌∷◌, ℕ, [], replicate, IfOk, IfSome, IsTrue};
+//! What the multipliers of recorded pairs are known by.
+ghost use Rattle.std.specs.Prelude.{◌≡◌, ◌≢◌, ◌∷◌, ℕ, [], Some, IfOk};
 ghost use Rattle.std.specs.List.{AllByRecursion};
-ghost use Rattle.poly_mixed.specs.Monomial.{Monomial};
+ghost use Rattle.poly_mixed.specs.Labels.{bit_count};
 ghost use Rattle.poly_mixed.specs.Polynomial.{IsMap};
 ghost use Rattle.poly_mixed.specs.Text.{HasNames, HasWordNames, text};
-ghost use Rattle.text_core.specs.Numbers.{hex_text};
 ghost use Rattle.cert_make.specs.Writable.{IsWritablePair};
-ghost use Rattle.cert_make.specs.private.Kept.{pairs_of};
-ghost use Rattle.cert_make.specs.private.TextSharing.{texts};
+ghost use Rattle.cert_make.specs.private.Kept.{monomial_kept, pair_of, pairs_of};
+ghost use Rattle.cert_make.specs.private.Keys.{key_by, keys};
 
 use crate::certificate::Entry;
-use crate::text_key::TextKey;
+use crate::key::Key;
+use crate::short::{place_below, short_of, word_bits};
 use poly_mixed::{Labels, Mono, Poly, Term, write_poly};
 use std::alloc::{AllocError, Global};
-use text_core::push_hex;
 
 // The polynomial of these terms.
 fn poly_of(alloc: Global, terms: &[Term]) -> Result<Poly, AllocError>
@@ -29,51 +28,6 @@ fn poly_of(alloc: Global, terms: &[Term]) -> Result<Poly, AllocError>
     Ok(poly)
 }
 
-// The coefficient, where there is one term and it has no variables.
-fn constant(terms: &[Term]) -> Option<u64>
-    ensures { IfSome result (λ c. (m : Monomial) × (terms.now ≡ (m, c) ∷ []) × (m.exponents ≡ replicate 8 0) × (m.bits ≡ [])) }
-{
-    match terms {
-        [term] if is_one(term.mono()) => Some(term.coefficient()),
-        _ => None,
-    }
-}
-
-// Whether no word stands in a monomial.
-fn has_no_words(mono: &Mono) -> bool
-    ensures { IsTrue result → mono.now.exponents ≡ replicate 8 0 }
-{
-    *mono.exponents() == [0; 8]
-}
-
-// Whether no bit stands in it.
-fn has_no_bits(mono: &Mono) -> bool
-    ensures { IsTrue result → mono.now.bits ≡ [] }
-{
-    match mono.bits() {
-        [] => true,
-        _ => false,
-    }
-}
-
-// Whether it has no variables.
-fn is_one(mono: &Mono) -> bool
-    ensures words { IsTrue result → mono.now.exponents ≡ replicate 8 0 }
-    ensures bits { IsTrue result → mono.now.bits ≡ [] }
-{
-    has_no_words(mono) && has_no_bits(mono)
-}
-
-// The text of a coefficient.
-fn constant_text(alloc: Global, c: u64) -> Result<Vec<u8>, AllocError>
-    ensures { IfOk result (λ v. v.items ≡ hex_text c) }
-{
-    // room for `0x` and 16 digits
-    let mut text = Vec::with_capacity(alloc, 18)?;
-    push_hex(&mut text, u128::from(c))?;
-    Ok(text)
-}
-
 // The text of the polynomial of these terms, whose variables all have names in the labels.
 fn text_of(alloc: Global, terms: &[Term], labels: &Labels) -> Result<Vec<u8>, AllocError>
     requires terms { IsMap terms.now }
@@ -81,28 +35,93 @@ fn text_of(alloc: Global, terms: &[Term], labels: &Labels) -> Result<Vec<u8>, Al
     requires words_named { HasWordNames labels.now terms.now }
     ensures { IfOk result (λ v. v.items ≡ text labels.now terms.now) }
 {
-    match constant(terms) {
-        Some(c) => constant_text(alloc, c),
+    let poly = poly_of(alloc, terms)?;
+    write_poly(alloc, &poly, labels)
+}
+
+// What the multiplier of these terms is known by, where the words have so many bits.
+fn key_of(alloc: Global, terms: &[Term], labels: &Labels, bits: u64) -> Result<Key, AllocError>
+    requires terms { IsMap terms.now }
+    requires named { HasNames labels.now terms.now }
+    requires words_named { HasWordNames labels.now terms.now }
+    requires bits { bits ≡ bit_count labels.now.words }
+    ensures { IfOk result (λ k. k ≡ key_by labels.now terms.now) }
+{
+    match short_of(terms, bits) {
+        Some(form) => Ok(Key::short(alloc, form.0, form.1)),
         None => {
-            let poly = poly_of(alloc, terms)?;
-            write_poly(alloc, &poly, labels)
+            let bytes = text_of(alloc, terms, labels)?;
+            Ok(Key::long(bytes))
         }
     }
 }
 
-/// The texts of the multipliers of pairs.
-pub(crate) fn texts_of(
+// The polynomial of a coefficient, which is not 0, and of a bit.
+fn scaled(alloc: Global, coefficient: u64, rank: u32) -> Result<Poly, AllocError>
+    requires { coefficient ≢ 0 }
+    ensures { IfOk result (λ p. p.terms ≡ (monomial_kept (Some rank), coefficient) ∷ []) }
+{
+    let mut poly = Poly::zero(alloc);
+    let mono = Mono::new(alloc, &[rank], &[0; 8])?;
+    poly.add_term(mono, coefficient)?;
+    Ok(poly)
+}
+
+// What a coefficient, which is not 0, and a bit are known by.
+fn key_of_bit(
+    alloc: Global,
+    coefficient: u64,
+    rank: u32,
+    labels: &Labels,
+    bits: u64,
+) -> Result<Key, AllocError>
+    requires some { coefficient ≢ 0 }
+    requires named { HasNames labels.now ((monomial_kept (Some rank), coefficient) ∷ []) }
+    requires words_named { HasWordNames labels.now ((monomial_kept (Some rank), coefficient) ∷ []) }
+    requires bits { bits ≡ bit_count labels.now.words }
+    ensures { IfOk result (λ k. k ≡ key_by labels.now ((monomial_kept (Some rank), coefficient) ∷ [])) }
+{
+    match place_below(rank, bits) {
+        Some(place) => Ok(Key::short(alloc, coefficient, place)),
+        None => {
+            let poly = scaled(alloc, coefficient, rank)?;
+            let bytes = write_poly(alloc, &poly, labels)?;
+            Ok(Key::long(bytes))
+        }
+    }
+}
+
+// What the multiplier of a pair is known by, where the words have so many bits.
+fn key_of_entry(alloc: Global, entry: &Entry, labels: &Labels, bits: u64) -> Result<Key, AllocError>
+    requires terms { IsMap (pair_of entry.now).1 }
+    requires named { HasNames labels.now (pair_of entry.now).1 }
+    requires words_named { HasWordNames labels.now (pair_of entry.now).1 }
+    requires bits { bits ≡ bit_count labels.now.words }
+    ensures { IfOk result (λ k. k ≡ key_by labels.now (pair_of entry.now).1) }
+{
+    if entry.coefficient == 0 {
+        return key_of(alloc, entry.terms.as_slice(), labels, bits);
+    }
+    match entry.rank {
+        None => Ok(Key::short(alloc, entry.coefficient, 0)),
+        Some(rank) => key_of_bit(alloc, entry.coefficient, rank, labels, bits),
+    }
+}
+
+/// What the multipliers of pairs are known by.
+pub(crate) fn keys_of(
     alloc: Global,
     entries: &[Entry],
     labels: &Labels,
-) -> Result<Vec<TextKey>, AllocError>
+) -> Result<Vec<Key>, AllocError>
     requires { (k : ℕ) × AllByRecursion (IsWritablePair labels.now k) (pairs_of entries.now) }
-    ensures { IfOk result (λ v. v.items ≡ texts labels.now (pairs_of entries.now)) }
+    ensures { IfOk result (λ v. v.items ≡ keys labels.now (pairs_of entries.now)) }
 {
+    let bits = word_bits(labels);
     let mut list = Vec::with_capacity(alloc, entries.len())?;
     for entry in entries {
-        let text = text_of(alloc, entry.terms.as_slice(), labels)?;
-        list.push(TextKey::new(text))?;
+        let key = key_of_entry(alloc, entry, labels, bits)?;
+        list.push(key)?;
     }
     Ok(list)
 }

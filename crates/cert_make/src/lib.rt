@@ -4,12 +4,15 @@
 
 mod certificate;
 mod copy;
+mod key;
 mod laws;
 mod lines;
 mod marks;
+mod multiplier;
+mod only;
 mod pairs;
 mod sharing;
-mod text_key;
+mod short;
 mod upgrading;
 
 pub use certificate::Certificate;

@@ -1,11 +1,14 @@
 //! The lines of a certificate.
-ghost use Rattle.std.specs.Prelude.{◌≡◌, ◌<◌, ◌++◌, ◌∷◌, [], codes, decimal, OnOk};
-ghost use Rattle.poly_mixed.specs.Labels.{bit_text};
+ghost use Rattle.std.specs.Prelude.{◌≡◌, ◌≤◌, ◌++◌, ◌∷◌, [], codes, decimal, OnOk};
+ghost use Rattle.poly_mixed.specs.Labels.{bit_count, bit_text};
 ghost use Rattle.poly_mixed.specs.Text.{HasNames, HasWordNames};
-ghost use Rattle.cert_make.specs.CertText.{claim_line, let_of, line_of, text_of_lines, generator_text as text_of_generator};
+ghost use Rattle.cert_make.specs.CertText.{claim_line, let_of, text_of_lines, generator_text as text_of_generator};
 ghost use Rattle.cert_make.specs.Writable.{HasName};
-ghost use Rattle.cert_make.specs.private.TextSharing.{named_by};
+ghost use Rattle.cert_make.specs.private.Keys.{key_text};
+ghost use Rattle.cert_make.specs.private.TextSharing.{known_line, named_by};
 
+use crate::key::Key;
+use crate::multiplier::{add_known, add_place};
 use itoa::Buffer;
 use poly_mixed::{Generator, Labels, Poly, write_poly};
 use std::alloc::{AllocError, Global};
@@ -44,12 +47,8 @@ fn add_net(out: &mut Vec<u8>, n: u32) -> Result<(), AllocError>
 fn add_bit(out: &mut Vec<u8>, name: &str, place: u32) -> Result<(), AllocError>
     ensures { OnOk result (out.new.items ≡ out.old.items ++ (codes "bit " ++ bit_text name.now place)) }
 {
-    let mut buffer = Buffer::new();
     out.extend_from_slice(b"bit ")?;
-    out.extend_from_slice(name.as_bytes())?;
-    out.push(b'[')?;
-    out.extend_from_slice(buffer.format(place).as_bytes())?;
-    out.push(b']')?;
+    add_place(out, name, u64::from(place))?;
     Ok(())
 }
 
@@ -75,12 +74,18 @@ fn add_number(out: &mut Vec<u8>, n: u64) -> Result<(), AllocError>
 }
 
 // A multiplier by its number, or by its text where it has none.
-fn add_multiplier(out: &mut Vec<u8>, number: Option<u64>, text: &[u8]) -> Result<(), AllocError>
-    ensures { OnOk result (out.new.items ≡ out.old.items ++ named_by number text.now) }
+fn add_multiplier(
+    out: &mut Vec<u8>,
+    number: Option<u64>,
+    key: &Key,
+    labels: &Labels,
+) -> Result<(), AllocError>
+    requires { key.now.place ≤ bit_count labels.now.words }
+    ensures { OnOk result (out.new.items ≡ out.old.items ++ named_by number (key_text labels.now key.now)) }
 {
     match number {
         Some(n) => add_number(out, n),
-        None => out.extend_from_slice(text),
+        None => add_known(out, key, labels),
     }
 }
 
@@ -90,14 +95,15 @@ pub(crate) fn add_pair(
     generator: Generator,
     labels: &Labels,
     number: Option<u64>,
-    text: &[u8],
+    key: &Key,
 ) -> Result<(), AllocError>
-    requires { HasName labels.now generator }
-    ensures { OnOk result (out.new.items ≡ out.old.items ++ text_of_lines (line_of (text_of_generator labels.now generator) (named_by number text.now) ∷ [])) }
+    requires named { HasName labels.now generator }
+    requires place { key.now.place ≤ bit_count labels.now.words }
+    ensures { OnOk result (out.new.items ≡ out.old.items ++ text_of_lines (known_line labels.now generator number key.now ∷ [])) }
 {
     add_generator(out, generator, labels)?;
     out.extend_from_slice(b" : ")?;
-    add_multiplier(out, number, text)?;
+    add_multiplier(out, number, key, labels)?;
     out.push(b'\n')?;
     Ok(())
 }
@@ -107,14 +113,16 @@ pub(crate) fn add_let(
     alloc: Global,
     out: &mut Vec<u8>,
     number: u64,
-    multiplier: &[u8],
+    key: &Key,
+    labels: &Labels,
 ) -> Result<(), AllocError>
-    ensures { OnOk result (out.new.items ≡ out.old.items ++ text_of_lines (let_of number multiplier.now ∷ [])) }
+    requires { key.now.place ≤ bit_count labels.now.words }
+    ensures { OnOk result (out.new.items ≡ out.old.items ++ text_of_lines (let_of number (key_text labels.now key.now) ∷ [])) }
 {
     let front = format!(in alloc; "let {}", number)?;
     out.extend_from_slice(front.as_bytes())?;
     out.extend_from_slice(b" : ")?;
-    out.extend_from_slice(multiplier)?;
+    add_known(out, key, labels)?;
     out.push(b'\n')?;
     Ok(())
 }

@@ -1,14 +1,14 @@
-//! For each text of a multiplier how often it was seen, or its number where it is shared.
-ghost use Rattle.std.specs.Prelude.{◌≡◌, ℕ, List, cond, IsTrue, None, Some, OnOk};
-ghost use Rattle.std.specs.Str.{bytes_eq};
+//! For each multiplier how often it was seen, or its number where it is shared.
+ghost use Rattle.std.specs.Prelude.{◌≡◌, cond, IsTrue, None, Some, OnOk};
+ghost use Rattle.cert_make.specs.private.Keys.{KeyParts, is_key};
 ghost use Rattle.cert_make.specs.private.TextSharing.{mark_at, seen_again};
 ghost use Rattle.cert_make.specs.declared.marks.Mark.TheVariants.{Number, Often};
 
-use crate::text_key::TextKey;
+use crate::key::Key;
 use std::alloc::{AllocError, Global};
 use std::collections::BTreeMap;
 
-/// What is known of a text: it was seen once, or more than once, or it is shared under this number.
+/// What is known of a multiplier: it was seen once, or more than once, or it is shared under this number.
 #[derive(Clone, Copy)]
 pub(crate) enum Mark {
     Once,
@@ -16,7 +16,7 @@ pub(crate) enum Mark {
     Number(u64),
 }
 
-// What is known of a text of which this was known, when it is seen once more.
+// What is known of a multiplier of which this was known, when it is seen once more.
 fn seen(mark: Option<Mark>) -> Mark
     ensures { result ≡ seen_again mark }
 {
@@ -26,7 +26,7 @@ fn seen(mark: Option<Mark>) -> Mark
     }
 }
 
-// Whether a text was seen more than once.
+// Whether a multiplier was seen more than once.
 fn is_often(mark: Option<Mark>) -> bool
     ensures { IsTrue result → mark ≡ Some Often }
 {
@@ -36,53 +36,53 @@ fn is_often(mark: Option<Mark>) -> bool
     }
 }
 
-/// What is known of texts. Clauses see it as a function of the text, by the word `mark_at`.
+/// What is known of multipliers. Clauses see it as a function of the key, by the word `mark_at`.
 #[derive(Drop)]
 pub(crate) struct Marks {
-    map: BTreeMap<TextKey, Mark>,
+    map: BTreeMap<Key, Mark>,
 }
 
 impl Marks {
-    /// No text was seen.
+    /// No multiplier was seen.
     pub(crate) fn new(alloc: Global) -> Marks
-        ensures { (q : List ℕ) → mark_at result q ≡ None }
+        ensures { (q : KeyParts) → mark_at result q ≡ None }
     {
         Marks {
             map: BTreeMap::new(alloc),
         }
     }
 
-    /// What is known of a text.
-    pub(crate) fn at(&self, text: &TextKey) -> Option<Mark>
-        ensures { result ≡ mark_at self.now text.now }
+    /// What is known of a multiplier.
+    pub(crate) fn at(&self, key: &Key) -> Option<Mark>
+        ensures { result ≡ mark_at self.now key.now }
     {
-        self.map.get(text).copied()
+        self.map.get(key).copied()
     }
 
-    /// Sees a text. After running out of memory the marks are not used again.
-    pub(crate) fn see(&mut self, alloc: Global, text: &TextKey) -> Result<(), AllocError>
-        ensures { OnOk result ((q : List ℕ) → mark_at self.new q ≡ cond (bytes_eq q text.now) (Some (seen_again (mark_at self.old q))) (mark_at self.old q)) }
+    /// Sees a multiplier. After running out of memory the marks are not used again.
+    pub(crate) fn see(&mut self, alloc: Global, key: &Key) -> Result<(), AllocError>
+        ensures { OnOk result ((q : KeyParts) → mark_at self.new q ≡ cond (is_key key.now q) (Some (seen_again (mark_at self.old q))) (mark_at self.old q)) }
     {
-        let known = self.at(text);
+        let known = self.at(key);
         if is_often(known) {
             return Ok(());
         }
-        let copied = text.copied(alloc)?;
+        let copied = key.copied(alloc)?;
         self.put(copied, seen(known))
     }
 
-    // Marks a text.
-    fn put(&mut self, text: TextKey, mark: Mark) -> Result<(), AllocError>
-        ensures { OnOk result ((q : List ℕ) → mark_at self.new q ≡ cond (bytes_eq q text) (Some mark) (mark_at self.old q)) }
+    // Marks a multiplier.
+    fn put(&mut self, key: Key, mark: Mark) -> Result<(), AllocError>
+        ensures { OnOk result ((q : KeyParts) → mark_at self.new q ≡ cond (is_key key q) (Some mark) (mark_at self.old q)) }
     {
-        self.map.insert(text, mark)?;
+        self.map.insert(key, mark)?;
         Ok(())
     }
 
-    /// Gives a text its number. After running out of memory the marks are not used again.
-    pub(crate) fn give(&mut self, text: TextKey, number: u64) -> Result<(), AllocError>
-        ensures { OnOk result ((q : List ℕ) → mark_at self.new q ≡ cond (bytes_eq q text) (Some (Number number)) (mark_at self.old q)) }
+    /// Gives a multiplier its number. After running out of memory the marks are not used again.
+    pub(crate) fn give(&mut self, key: Key, number: u64) -> Result<(), AllocError>
+        ensures { OnOk result ((q : KeyParts) → mark_at self.new q ≡ cond (is_key key q) (Some (Number number)) (mark_at self.old q)) }
     {
-        self.put(text, Mark::Number(number))
+        self.put(key, Mark::Number(number))
     }
 }

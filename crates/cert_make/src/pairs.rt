@@ -3,50 +3,50 @@ ghost use Rattle.std.specs.Prelude.{◌≡◌, ◌+◌, ◌<◌, ◌≤◌, ◌^
 ghost use Rattle.std.specs.List.{AllByRecursion};
 ghost use Rattle.poly_mixed.specs.Labels.{Labelling};
 ghost use Rattle.poly_mixed.specs.Steps.{Step};
-ghost use Rattle.poly_mixed.specs.Text.{text};
 ghost use Rattle.cert_make.specs.CertText.{text_of_lines, lines_from};
 ghost use Rattle.cert_make.specs.Writable.{IsWritablePair};
 ghost use Rattle.cert_make.specs.private.Kept.{pair_of, pairs_of};
-ghost use Rattle.cert_make.specs.private.TextSharing.{texts, AddsLinesOf, AreMarks, SharesWith};
+ghost use Rattle.cert_make.specs.private.Keys.{key_by, keys};
+ghost use Rattle.cert_make.specs.private.TextSharing.{AddsLinesOf, AreMarks, SharesWith};
 
 use crate::certificate::Entry;
-use crate::copy::texts_of;
+use crate::copy::keys_of;
+use crate::key::Key;
 use crate::lines::{add_end, add_pair};
 use crate::marks::Marks;
 use crate::sharing::Sharing;
-use crate::text_key::TextKey;
 use poly_mixed::Labels;
 use std::alloc::{AllocError, Global};
 
-// How often each text stands in a list.
-fn marked(alloc: Global, list: &[TextKey]) -> Result<Marks, AllocError>
-    ensures { (labels : Labelling) (pairs : List Step) → list.now ≡ texts labels pairs → IfOk result (AreMarks labels pairs []) }
+// How often each multiplier stands in a list.
+fn marked(alloc: Global, list: &[Key]) -> Result<Marks, AllocError>
+    ensures { (labels : Labelling) (pairs : List Step) → list.now ≡ keys labels pairs → IfOk result (AreMarks labels pairs []) }
 {
     let mut marks = Marks::new(alloc);
-    for text in list {
-        marks.see(alloc, text)?;
+    for key in list {
+        marks.see(alloc, key)?;
     }
     Ok(marks)
 }
 
-// The lines of a pair, whose multiplier has this text.
+// The lines of a pair, whose multiplier has this key.
 fn add_entry(
     alloc: Global,
     out: &mut Vec<u8>,
     labels: &Labels,
     sharing: &mut Sharing,
     entry: &Entry,
-    told: &TextKey,
+    key: &Key,
 ) -> Result<(), AllocError>
     requires room { sharing.old.count + 1 < 2 ^ 64 }
     requires writable { (k : ℕ) × IsWritablePair labels.now k (pair_of entry.now) }
-    requires told { told.now ≡ text labels.now (pair_of entry.now).1 }
+    requires known { key.now ≡ key_by labels.now (pair_of entry.now).1 }
     ensures lines { AddsLinesOf labels.now (pair_of entry.now) sharing.old result out.old.items out.new.items }
     ensures sharing { SharesWith labels.now (pair_of entry.now) sharing.old result sharing.new }
     ensures room { OnOk result (sharing.new.count ≤ sharing.old.count + 1) }
 {
-    let number = sharing.number_for(alloc, out, told)?;
-    add_pair(out, entry.generator, labels, number, told.bytes())
+    let number = sharing.number_for(alloc, out, labels, key)?;
+    add_pair(out, entry.generator, labels, number, key)
 }
 
 // The lines of pairs, and the last line.
@@ -59,12 +59,12 @@ pub(crate) fn add_pairs(
     requires { (k : ℕ) × AllByRecursion (IsWritablePair labels.now k) (pairs_of entries.now) }
     ensures { OnOk result (out.new.items ≡ out.old.items ++ text_of_lines (lines_from labels.now (pairs_of entries.now) [] (pairs_of entries.now))) }
 {
-    let list = texts_of(alloc, entries, labels)?;
-    let texts = list.as_slice();
-    let marks = marked(alloc, texts)?;
+    let list = keys_of(alloc, entries, labels)?;
+    let keys = list.as_slice();
+    let marks = marked(alloc, keys)?;
     let mut sharing = Sharing { marks, count: 0 };
     for (i, entry) in entries.iter().enumerate() {
-        add_entry(alloc, out, labels, &mut sharing, entry, &texts[i])?;
+        add_entry(alloc, out, labels, &mut sharing, entry, &keys[i])?;
     }
     add_end(out)
 }

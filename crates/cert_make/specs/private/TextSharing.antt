@@ -1,101 +1,89 @@
--- Sharing as the code finds it: multipliers are the same where their texts are. Source: this project's own.
-use Rattle.std.specs.Prelude.{length, ◌≡◌, ℕ, ◌+◌, ◌==◌, cond, codes, decimal, List, [], ◌∷◌, ◌++◌, map, nat_lt, Option, Some, None, Result, OnOk}
+-- Sharing as the code finds it: multipliers are the same where their keys are. Source: this project's own.
+use Rattle.std.specs.Prelude.{length, ◌≡◌, ℕ, ◌+◌, ◌==◌, cond, codes, decimal, List, [], ◌∷◌, ◌++◌, nat_lt, Option, Some, None, Result, OnOk}
 use Rattle.std.specs.List.{AllByRecursion}
 use Rattle.std.specs.Option.{option_map}
 use Rattle.std.specs.BTreeMap.{get}
-use Rattle.std.specs.Cmp.{IsTotalOrder}
-use Rattle.std.specs.Cmp.Lexicographic.{slice_cmp, nat_list_cmp_total}
-use Rattle.std.specs.declared.cmp.Ordering.{Ordering}
-use Rattle.std.specs.Ordering.{nat_cmp}
-use Rattle.std.specs.Str.{bytes_eq}
 use Rattle.poly_mixed.specs.Labels.{Labelling}
 use Rattle.poly_mixed.specs.Polynomial.{Terms}
 use Rattle.poly_mixed.specs.Steps.{Step}
-use Rattle.poly_mixed.specs.Text.{text}
+use Rattle.poly_mixed.specs.declared.steps.Generator.{Generator}
 use Rattle.poly_mixed.specs.laws.TextLaw.{IsWritten}
 use Rattle.lists.specs.Lists.{Has}
-use Rattle.cert_make.specs.CertText.{let_of, lines_at, text_of_lines}
+use Rattle.cert_make.specs.CertText.{generator_text, let_of, line_of, lines_at, text_of_lines}
 use Rattle.cert_make.specs.Sharing.{shares_with}
 use Rattle.cert_make.specs.Writable.{IsWritablePair}
+use Rattle.cert_make.specs.private.Keys.{KeyParts, key_cmp, is_key, key_by, key_text}
 use Rattle.cert_make.specs.declared.marks.Mark.{Mark}
 use Rattle.cert_make.specs.declared.marks.Mark.TheVariants.{Once, Often, Number}
 use Rattle.cert_make.specs.declared.marks.Marks.{Marks}
 use Rattle.cert_make.specs.declared.sharing.Sharing.{Sharing}
 
--- texts in their order
-abbrev pub bytes_cmp : List ℕ → List ℕ → Ordering
-bytes_cmp = slice_cmp nat_cmp
+-- what is known of the multiplier of a key
+abbrev pub mark_at : Marks → KeyParts → Option Mark
+mark_at marks q = get key_cmp marks.map q
 
--- it is a total order
-pub bytes_cmp_total : IsTotalOrder bytes_cmp
-bytes_cmp_total = nat_list_cmp_total
-
--- what is known of a text
-abbrev pub mark_at : Marks → List ℕ → Option Mark
-mark_at marks q = get bytes_cmp marks.map q
-
--- a text that is seen once more
+-- a multiplier that is seen once more
 abbrev pub seen_again : Option Mark → Mark
 seen_again None = Once
 seen_again (Some mark) = Often
 
--- the texts of the multipliers of pairs
-abbrev pub texts : Labelling → List Step → List (List ℕ)
-texts labels pairs = map (λ (s : Step). text labels s.1) pairs
+-- how many of the pairs have a multiplier with this key
+abbrev pub key_uses : Labelling → List Step → KeyParts → ℕ
+key_uses labels [] q = 0
+key_uses labels (s ∷ pairs) q = cond (is_key (key_by labels s.1) q) 1 0 + key_uses labels pairs q
 
--- how many of the pairs have a multiplier with this text
-abbrev pub text_uses : Labelling → List Step → List ℕ → ℕ
-text_uses labels [] q = 0
-text_uses labels (s ∷ pairs) q = cond (bytes_eq q (text labels s.1)) 1 0 + text_uses labels pairs q
-
--- the number of the first of these multipliers that has this text
-abbrev pub text_number : Labelling → List Terms → List ℕ → Option ℕ
-text_number labels [] q = None
-text_number labels (x ∷ xs) q = cond (bytes_eq q (text labels x)) (Some 0) (option_map (λ i. i + 1) (text_number labels xs q))
+-- the number of the first of these multipliers that has this key
+abbrev pub key_number : Labelling → List Terms → KeyParts → Option ℕ
+key_number labels [] q = None
+key_number labels (x ∷ xs) q = cond (is_key (key_by labels x) q) (Some 0) (option_map (λ i. i + 1) (key_number labels xs q))
 
 abbrev pub numbered : Option ℕ → Mark
 numbered None = Often
 numbered (Some n) = Number n
 
--- what is to be known of a text that is the multiplier of so many pairs and has this number
+-- what is to be known of a multiplier of so many pairs that has this number
 abbrev pub mark_of : ℕ → Option ℕ → Option Mark
 mark_of uses number = cond (uses == 0) None (cond (nat_lt 1 uses) (Some (numbered number)) (Some Once))
 
--- the marks of the texts of these pairs, where these multipliers have numbers
+-- the marks of the multipliers of these pairs, where these multipliers have numbers
 abbrev pub AreMarks : Labelling → List Step → List Terms → Marks → Type 0
-AreMarks labels pairs shares marks = (q : List ℕ) → mark_at marks q ≡ mark_of (text_uses labels pairs q) (text_number labels shares q)
+AreMarks labels pairs shares marks = (q : KeyParts) → mark_at marks q ≡ mark_of (key_uses labels pairs q) (key_number labels shares q)
 
--- the `let` line that is due at a text with this mark, where so many texts have a number
+-- the `let` line that is due at a multiplier with this mark and this text, where so many have a number
 abbrev pub lets_by : Option Mark → ℕ → List ℕ → List (List ℕ)
 lets_by None count t = []
 lets_by (Some Once) count t = []
 lets_by (Some Often) count t = let_of count t ∷ []
 lets_by (Some (Number n)) count t = []
 
--- how a text is written as a multiplier: by its number, or as it is where it has none
+-- how a multiplier with this text is written: by its number, or as it is where it has none
 abbrev pub named_by : Option ℕ → List ℕ → List ℕ
 named_by None t = t
 named_by (Some n) t = codes "#" ++ decimal n
 
--- how the text is written as a multiplier
+-- the line of a pair whose multiplier is known by this, with its number where it has one
+abbrev pub known_line : Labelling → Generator → Option ℕ → KeyParts → List ℕ
+known_line labels generator number key = line_of (generator_text labels generator) (named_by number (key_text labels key))
+
+-- how it is written by its mark
 abbrev pub written_by : Option Mark → ℕ → List ℕ → List ℕ
 written_by None count t = t
 written_by (Some Once) count t = t
 written_by (Some Often) count t = codes "#" ++ decimal count
 written_by (Some (Number n)) count t = codes "#" ++ decimal n
 
--- how many texts have a number then
+-- how many multipliers have a number then
 abbrev pub count_by : Option Mark → ℕ → ℕ
 count_by None count = count
 count_by (Some Once) count = count
 count_by (Some Often) count = count + 1
 count_by (Some (Number n)) count = count
 
--- what is known then of a text q of which this was known
-abbrev pub mark_by : Option Mark → ℕ → List ℕ → List ℕ → Option Mark → Option Mark
+-- what is known then of the multiplier of a key q of which this was known
+abbrev pub mark_by : Option Mark → ℕ → KeyParts → KeyParts → Option Mark → Option Mark
 mark_by None count t q known = known
 mark_by (Some Once) count t q known = known
-mark_by (Some Often) count t q known = cond (bytes_eq q t) (Some (Number count)) known
+mark_by (Some Often) count t q known = cond (is_key t q) (Some (Number count)) known
 mark_by (Some (Number n)) count t q known = known
 
 -- what is known where these multipliers are shared so far

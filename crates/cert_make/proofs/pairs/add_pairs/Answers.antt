@@ -4,7 +4,7 @@ use Rattle.poly_mixed.specs.Polynomial.{Terms}
 use Rattle.poly_mixed.specs.Steps.{Step}
 use Rattle.cert_make.specs.private.Kept.{pair_of, pairs_of}
 use Rattle.cert_make.specs.private.TextSharing.{IsSharingOf}
-use Rattle.cert_make.proofs.CopyLemmas.{text_at}
+use Rattle.cert_make.proofs.CopyLemmas.{key_at}
 use Rattle.cert_make.proofs.SharingLemmas.{written_pair}
 use Rattle.cert_make.proofs.WrittenLemmas.{entry_has, shares_at, shares_next, whole_next}
 use Rattle.cert_make.proofs.pairs.add_pairs.Goals as goal
@@ -32,6 +32,6 @@ loop-i-preserved c =
       room = omega (arith, room, c.loop-i.invariant.room);
     }
 
-pub add_entry-requires-clause-told : goal.add_entry-requires-clause-told
-add_entry-requires-clause-told c =
-    text_at c.args.labels.now c.args.entries.now c.as_slice-texts.result.now c.loop-i.i c.index-entries-i.result c.index-texts-i.result (c.as_slice-texts.ensures.value ∙ c.in_ok-list.ensures) c.loop-i-test.true c.index-entries-i.is c.index-texts-i.is
+pub add_entry-requires-clause-known : goal.add_entry-requires-clause-known
+add_entry-requires-clause-known c =
+    key_at c.args.labels.now c.args.entries.now c.as_slice-keys.result.now c.loop-i.i c.index-entries-i.result c.index-keys-i.result (c.as_slice-keys.ensures.value ∙ c.in_ok-list.ensures) c.loop-i-test.true c.index-entries-i.is c.index-keys-i.is

@@ -1,7 +1,0 @@
-use Rattle.std.proofs.Common.{◌≡◌, take}
-use Rattle.cert_make.specs.private.Kept.{pairs_of}
-use Rattle.cert_make.specs.private.TextSharing.{texts}
-use Rattle.cert_make.proofs.copy.texts_of.Given as goal
-
-abbrev pub invariant-loop-entry : goal.invariant-loop-entry
-invariant-loop-entry l = l.list.items ≡ texts l.labels (take l.entry-index (pairs_of l.entries))
