@@ -30,10 +30,10 @@ module _ (setting : SettingValue) (circuit : BoundNet) (taken : IsTaken setting 
       some_staged setting.k setting.product (bits_stages setting circuit) (stage_text (labels_of setting.k setting.signature.words)) bound (IsLastCut setting circuit) found.0 found.1
       (bits_decided setting circuit bound (well setting circuit taken) (taken_bases setting circuit taken))
 
-  bits_reply : HasOutcome (BitsReply setting circuit bound)
+  pub bits_reply : HasOutcome (BitsReply setting circuit bound)
   bits_reply = some_bind (Within faults.Stage (BitsOf setting circuit bound)) (λ ts. Exactly (prints setting ts)) (some_within faults.Stage (BitsOf setting circuit bound) in_bits) (λ ts may. some_exactly (prints setting ts))
 
-  abstract_reply : HasOutcome (AbstractReply setting circuit bound)
+  pub abstract_reply : HasOutcome (AbstractReply setting circuit bound)
   abstract_reply =
       some_bind (Within faults.Stage (AbstractOf setting circuit bound)) (λ ts. Exactly (prints setting ts))
       (some_within faults.Stage (AbstractOf setting circuit bound) (some_abstracted setting circuit bound (well setting circuit taken) (taken_bases setting circuit taken))) (λ ts may. some_exactly (prints setting ts))

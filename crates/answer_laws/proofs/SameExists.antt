@@ -48,7 +48,7 @@ module _ (setting : SettingValue) (circuit other : BoundNet) (one : IsTaken sett
       (both_decided setting.k setting.product (bits_stages setting circuit) (bits_stages setting other) bound (bits_decided setting circuit bound (well setting circuit one) (taken_bases setting circuit one))
       (bits_decided setting other bound (well setting other two) (taken_bases setting other two)))
 
-  reply_of : HasOutcome (SameReply setting circuit other bound)
+  pub reply_of : HasOutcome (SameReply setting circuit other bound)
   reply_of =
       some_bind (Within faults.Stage (SameOf setting circuit other bound)) (λ found. Exactly (same_reply (labels_of setting.k setting.signature.words) found)) (some_within faults.Stage (SameOf setting circuit other bound) same_of)
       (λ found may. some_exactly (same_reply (labels_of setting.k setting.signature.words) found))

@@ -37,14 +37,14 @@ use Rattle.answer_laws.proofs.TakenExists.{taken_whole}
 use Rattle.answer_laws.proofs.ValuesExist.{some_size, some_values}
 
 module _ (setting : SettingValue) (circuit : BoundNet) (taken : IsTaken setting circuit) where
-  eval_reply : (values : List Word) (xs : List ℕ) → ValuesOf setting.k (table_words setting) values (Ok xs) → HasOutcome (EvalReply setting circuit xs)
+  pub eval_reply : (values : List Word) (xs : List ℕ) → ValuesOf setting.k (table_words setting) values (Ok xs) → HasOutcome (EvalReply setting circuit xs)
   eval_reply values xs are =
       let fit = values_fit setting.k (table_words setting) values xs are in
       let input : IsInput (taken_circuit setting circuit) xs = record { long = fit.0 ∙ sym (count setting circuit taken); elements = fit.1 } in
       let found = some_out (taken_circuit setting circuit) xs (well setting circuit taken) input in
       (Ok (record { status = 0; text = element_line setting found.0 }), (found.0, found.1, refl))
 
-  table_reply : HasOutcome (TableReply setting circuit)
+  pub table_reply : HasOutcome (TableReply setting circuit)
   table_reply = let found = some_table (taken_circuit setting circuit) (well setting circuit taken) in (Ok (record { status = 0; text = table_text found.0 }), (found.0, found.1, refl))
 
 module _ (held : Option Files) (bytes : List ℕ) (setting : SettingValue) (is_setting : SettingOf bytes (Ok setting)) where
@@ -69,7 +69,7 @@ module _ (held : Option Files) (bytes : List ℕ) (setting : SettingValue) (is_s
   pub some_table_answer : (net : Word) (cycles : ℕ) → HasOutcome (TableAnswer held setting net cycles)
   some_table_answer net cycles = some_bind (SmallEnough setting) (λ small. TableOver held setting net cycles) (some_size setting) (λ small is. table_over net cycles)
 
-  lift_reply : (file : Word) (table : List ℕ) → TableIn held setting.k (2 ^ (setting.k * table_words setting)) file (Ok table) → HasOutcome (LiftReply setting table)
+  pub lift_reply : (file : Word) (table : List ℕ) → TableIn held setting.k (2 ^ (setting.k * table_words setting)) file (Ok table) → HasOutcome (LiftReply setting table)
   lift_reply file table (text, read, is) =
       let sound = setting_sound bytes setting is_setting in
       let few = (are_labels setting.k setting.signature.words sound.words (setting_names bytes setting is_setting)).few in

@@ -5,7 +5,7 @@ ghost use Rattle.stage_model.specs.OutputInBits.{IsOutputInBits};
 ghost use Rattle.spec_expand.specs.Specification.{IsOverWords};
 ghost use Rattle.job_words.specs.Stop.{GivesBy};
 ghost use Rattle.job_input.specs.Labelling.{labels_of};
-ghost use Rattle.job_input.specs.Setting.{setting_value, IsReady, IsTakenFor};
+ghost use Rattle.job_input.specs.Setting.{setting_value as value_of, IsReady, IsTakenFor};
 ghost use Rattle.spec_compare.specs.Verdict.{comparison_of};
 ghost use Rattle.answer_core.specs.DifferingLines.{difference_at};
 ghost use Rattle.answer_core.specs.Replies.{Replies, RepliesAlone};
@@ -45,7 +45,7 @@ pub fn answer<F: Field, S: Shelf>(
     requires { IsReady (F.degree field.now) (F.product field.now) setting.now }
     ensures held { S.held shelf.new ≡ S.held shelf.old }
     ensures never_fall { (S.faults shelf.old ≤ S.faults shelf.new) × (S.misses shelf.old ≤ S.misses shelf.new) }
-    ensures gives { Replies S.held S.misses S.faults shelf.old shelf.new result (CheckAnswerTo (setting_value (F.degree field.now) (F.product field.now) setting.now) words.now) }
+    ensures gives { Replies S.held S.misses S.faults shelf.old shelf.new result (CheckAnswerTo (value_of (F.degree field.now) (F.product field.now) setting.now) words.now) }
 {
     match read_netlist(alloc, shelf, setting, words.net) {
         Ok(netlist) => over(alloc, field, setting, words, netlist, shelf),
@@ -66,7 +66,7 @@ fn over<F: Field, S: Shelf>(
     requires taken { IsTakenFor (F.degree field.now) setting.now netlist }
     ensures held { S.held shelf.new ≡ S.held shelf.old }
     ensures never_fall { (S.faults shelf.old ≤ S.faults shelf.new) × (S.misses shelf.old ≤ S.misses shelf.new) }
-    ensures gives { Replies S.held S.misses S.faults shelf.old shelf.new result (CheckAfter (setting_value (F.degree field.now) (F.product field.now) setting.now) words.now netlist) }
+    ensures gives { Replies S.held S.misses S.faults shelf.old shelf.new result (CheckAfter (value_of (F.degree field.now) (F.product field.now) setting.now) words.now netlist) }
 {
     let labels = labels(alloc, field, setting)?;
     match read_specification(alloc, field, shelf, &labels, words.other) {
@@ -89,7 +89,7 @@ fn unrolled<F: Field>(
     requires taken { IsTakenFor (F.degree field.now) setting.now netlist }
     requires labels { labels.now ≡ labels_of (F.degree field.now) setting.now.signature.words }
     requires spec { IsOverWords (F.degree field.now) (length labels.now.words) spec.now }
-    ensures { RepliesAlone result (CheckAfterBoth (setting_value (F.degree field.now) (F.product field.now) setting.now) words.now netlist spec.now) }
+    ensures { RepliesAlone result (CheckAfterBoth (value_of (F.degree field.now) (F.product field.now) setting.now) words.now netlist spec.now) }
 {
     match unroll_simpler(alloc, words.net, netlist, words.cycles, words.simplify) {
         Ok(circuit) => reply(alloc, field, setting, labels, &circuit, spec, words.terms),
@@ -111,7 +111,7 @@ fn reply<F: Field>(
     requires taken { IsTakenFor (F.degree field.now) setting.now circuit.now }
     requires labels { labels.now ≡ labels_of (F.degree field.now) setting.now.signature.words }
     requires spec { IsOverWords (F.degree field.now) (length labels.now.words) spec.now }
-    ensures { RepliesAlone result (CheckReply (setting_value (F.degree field.now) (F.product field.now) setting.now) circuit.now spec.now bound) }
+    ensures { RepliesAlone result (CheckReply (value_of (F.degree field.now) (F.product field.now) setting.now) circuit.now spec.now bound) }
 {
     match print_words(alloc, field, setting, labels, circuit, bound) {
         Ok(printed) => beside(
@@ -133,9 +133,9 @@ fn print_words<F: Field>(
     requires ready { IsReady (F.degree field.now) (F.product field.now) setting.now }
     requires taken { IsTakenFor (F.degree field.now) setting.now circuit.now }
     requires labels { labels.now ≡ labels_of (F.degree field.now) setting.now.signature.words }
-    ensures gives { GivesBy (λ printed. printed.line.items) result (WordsLine (setting_value (F.degree field.now) (F.product field.now) setting.now) circuit.now bound) ⊥ ⊥ }
-    ensures well { IfOk result (λ printed. IsWellFormed (taken_circuit (setting_value (F.degree field.now) (F.product field.now) setting.now) circuit.now)) }
-    ensures output { IfOk result (λ printed. IsOutputInBits (taken_circuit (setting_value (F.degree field.now) (F.product field.now) setting.now) circuit.now) printed.bits.terms) }
+    ensures gives { GivesBy (λ printed. printed.line.items) result (WordsLine (value_of (F.degree field.now) (F.product field.now) setting.now) circuit.now bound) ⊥ ⊥ }
+    ensures well { IfOk result (λ printed. IsWellFormed (taken_circuit (value_of (F.degree field.now) (F.product field.now) setting.now) circuit.now)) }
+    ensures output { IfOk result (λ printed. IsOutputInBits (taken_circuit (value_of (F.degree field.now) (F.product field.now) setting.now) circuit.now) printed.bits.terms) }
 {
     let bits = match last_cut(alloc, field, setting, circuit, bound, &mut NoSteps) {
         Ok(bits) => bits,
@@ -165,9 +165,9 @@ fn beside<F: Field>(
     requires taken { IsTakenFor (F.degree field.now) setting.now circuit.now }
     requires labels { labels.now ≡ labels_of (F.degree field.now) setting.now.signature.words }
     requires spec { IsOverWords (F.degree field.now) (length labels.now.words) spec.now }
-    requires well { IsWellFormed (taken_circuit (setting_value (F.degree field.now) (F.product field.now) setting.now) circuit.now) }
-    requires output { IsOutputInBits (taken_circuit (setting_value (F.degree field.now) (F.product field.now) setting.now) circuit.now) printed.now.bits.terms }
-    ensures { RepliesAlone result (CheckBeside (setting_value (F.degree field.now) (F.product field.now) setting.now) circuit.now spec.now bound printed.now.line.items) }
+    requires well { IsWellFormed (taken_circuit (value_of (F.degree field.now) (F.product field.now) setting.now) circuit.now) }
+    requires output { IsOutputInBits (taken_circuit (value_of (F.degree field.now) (F.product field.now) setting.now) circuit.now) printed.now.bits.terms }
+    ensures { RepliesAlone result (CheckBeside (value_of (F.degree field.now) (F.product field.now) setting.now) circuit.now spec.now bound printed.now.line.items) }
 {
     match verdict(
         alloc,

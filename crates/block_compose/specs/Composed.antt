@@ -59,6 +59,10 @@ pub record HasBases (k : ℕ) (mul : ℕ → ℕ → ℕ) (bases : List (List Ba
   pub long : length list ≡ length words
   pub each : (basis : Basis) → Has list basis → IsBasisOver k mul basis
 
+-- list n + 1 has them for the words of block n
+abbrev pub HaveBlockBases : (k : ℕ) (mul : ℕ → ℕ → ℕ) → List (List Basis) → List BlockValue → Type 0
+HaveBlockBases k mul bases blocks = (number : ℕ) (block : BlockValue) → slice_get blocks number ≡ Some block → HasBases k mul bases (number + 1) block.words
+
 -- the flattened top binds to the signature; its words, and those of each block, can be bound, where each that is not fed has k nets and none
 -- of a block is fed; and all have their bases of this field
 pub record IsComposable (k : ℕ) (mul : ℕ → ℕ → ℕ) (design : List ModelValue) (signature : SignatureValue) (bases : List (List Basis)) : Type 0 where
@@ -69,7 +73,7 @@ pub record IsComposable (k : ℕ) (mul : ℕ → ℕ → ℕ) (design : List Mod
   pub words_are : AreWords k signature.words
   pub blocks_are : CanAllBind k signature.blocks
   pub top : HasBases k mul bases 0 signature.words
-  pub blocks : (number : ℕ) (block : BlockValue) → slice_get signature.blocks number ≡ Some block → HasBases k mul bases (number + 1) block.words
+  pub blocks : HaveBlockBases k mul bases signature.blocks
 
 -- ---- the steps
 

@@ -19,3 +19,4 @@ pub mod TrialHeadlineLemmas
 pub mod RunLemmas
 pub mod RefusalLemmas
 pub mod OtherRefusalLemmas
+pub mod RepliesExist

@@ -1,6 +1,6 @@
 -- When a command is refused, and when it stops at a stage: what it reads, step by step, of which the first fault counts, and then the
 -- first of its stages over the bound. Source: this project's own, docs/COMMANDS.md.
-use Rattle.std.specs.Prelude.{◌≡◌, ◌⊎◌, ◌↔◌, ℕ, ◌*◌, ◌^◌, Bool, List, [], length, Option, Some, Result, Ok, Err}
+use Rattle.std.specs.Prelude.{◌≡◌, ◌⊎◌, ◌↔◌, ℕ, ◌*◌, ◌^◌, Bool, List, [], length, Option, Some, Ok, Err}
 use Rattle.outcome.specs.Outcome.{Outcome, ◌>>=◌, Exactly, Within}
 use Rattle.job_io.specs.Shelf.{Files}
 use Rattle.gf_basis.specs.declared.bases.Basis.{Basis}
@@ -128,9 +128,13 @@ pub record IsRefusedInOrder {G : Type 0} (held : Option Files) (words : List Wor
   pub refused : (fault : Fault) → Refuses held signature given fault ↔ (Answer words held (Err fault) × (fault_status fault ≡ 2))
   pub stopped : (stage : StageFault) → Stops held signature given (IsFirst stage) ↔ Answer words held (Err (faults.Stage stage))
 
--- an answer to the words, a reply or a fault
-abbrev pub HasAnswer : List Word → Option Files → Type 0
-HasAnswer words held = (outcome : Result Reply Fault) × Answer words held outcome
+-- a reply to the words
+abbrev pub HasReply : List Word → Option Files → Type 0
+HasReply words held = (reply : Reply) × Answer words held (Ok reply)
+
+-- a reply to the words, or a stop with status 3 at a stage
+abbrev pub HasReplyOrStop : List Word → Option Files → Type 0
+HasReplyOrStop words held = HasReply words held ⊎ ((stage : StageFault) × Answer words held (Err (faults.Stage stage)))
 
 -- ---- stages
 

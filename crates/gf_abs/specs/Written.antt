@@ -54,6 +54,11 @@ abbrev pub IsWrittenUnlessFailed : {S K : Type 0} → (faults : S → ℕ) (old 
 IsWrittenUnlessFailed faults old new refusals written before after outcome status =
     (Rises faults old new → ⊥) → (Rises refusals before after → ⊥) → (status ≡ 5) ⊎ IsWritten outcome status (written before) (written after)
 
+-- so it is with each answer or fault that comes of the words, where the shelf tells what it holds
+abbrev pub WritesEachAnswer : {S K : Type 0} → List Word → (held : S → Option Files) (faults : S → ℕ) (old new : S) → (refusals : K → ℕ) (written : K → Option (List ℕ)) (before after : K) → (status : ℕ) → Type 0
+WritesEachAnswer words held faults old new refusals written before after status =
+    (files : Files) (outcome : Result Reply Fault) → held old ≡ Some files → Answer words (Some files) outcome → IsWrittenUnlessFailed faults old new refusals written before after outcome status
+
 -- where the shelf tells what it holds, an answer or a fault comes of the words, and it was written whole, unless the outside or memory
 -- failed
 abbrev pub WritesItsAnswer : {S K : Type 0} → List Word → (held : S → Option Files) (faults : S → ℕ) (old new : S) → (refusals : K → ℕ) (written : K → Option (List ℕ)) (before after : K) → (status : ℕ) → Type 0

@@ -5,7 +5,7 @@ ghost use Rattle.job_io.specs.SureShelf.{sure_files, sure_misses};
 ghost use Rattle.job_input.specs.Reads.{Rises};
 ghost use Rattle.gf_abs.specs.Answer.{Answer};
 ghost use Rattle.gf_abs.specs.RunHeadline.{AbstractPrints, BitsPrints, CertifyPrints, CheckAccepts, CheckRejects, ComposePrints, EvalPrints, IsoPrints, LiftPrints, MakePrints, SameAgrees, SameDiffers, TablePrints, TrialPrints, UpgradePrints, VerifyLeavesTerms, VerifyProves};
-ghost use Rattle.gf_abs.specs.Written.{IsText, IsWrittenUnlessFailed, OutsideFailed, WritesItsAnswer, WritesWhole};
+ghost use Rattle.gf_abs.specs.Written.{IsText, OutsideFailed, WritesEachAnswer, WritesItsAnswer, WritesWhole};
 
 use crate::top::write_answer;
 use job_io::{Shelf, Sink, SureShelf, SureSink};
@@ -24,8 +24,7 @@ pub fn run<S: Shelf, K: Sink>(alloc: Global, words: &[String], shelf: &mut S, si
     // memory fails.
     ensures answered { WritesItsAnswer (map string_bytes words.now) S.held S.faults shelf.old shelf.new K.faults K.written sink.old sink.new result }
     // There is one at most: so it is with each that comes of the words.
-    ensures complete { (files : _) (outcome : _) → S.held shelf.old ≡ Some files → Answer (map string_bytes words.now) (Some files) outcome
-        → IsWrittenUnlessFailed S.faults shelf.old shelf.new K.faults K.written sink.old sink.new outcome result }
+    ensures complete { WritesEachAnswer (map string_bytes words.now) S.held S.faults shelf.old shelf.new K.faults K.written sink.old sink.new result }
 
     // Where the shelf tells what it holds, this is what was printed of the job that the held files give, command by command, with
     // status 0 and with status 1.

@@ -5,7 +5,7 @@ ghost use Rattle.job_words.specs.declared.fault.Fault.{Fault};
 ghost use Rattle.job_words.specs.declared.fault.Fault.TheVariants.{Stage};
 ghost use Rattle.job_words.specs.declared.stage_fault.StageFault.{StageFault};
 ghost use Rattle.gf_abs.specs.Answer.{ActionAnswer, Answer};
-ghost use Rattle.gf_abs.specs.Refusals.{BothGiven, CertificateGiven, CircuitGiven, EvalGiven, HasAnswer, HasNoStages, HierarchyGiven, IsAbstractOver, IsBitsOver, IsCertifyOver, IsCheckOver, IsCompositionOver, IsRefusedInOrder, IsSameOver, IsSumOver, IsTrialRefusedInOrder, LiftGiven, OfAbstract, OfActions, OfBits, OfCertify, OfCheck, OfCompose, OfEval, OfLift, OfSame, OfTable, OfTrial, OfVerify, Reads, Refuses, SimplerGiven, SpecifiedGiven, TableGiven};
+ghost use Rattle.gf_abs.specs.Refusals.{BothGiven, CertificateGiven, CircuitGiven, EvalGiven, HasNoStages, HasReply, HasReplyOrStop, HierarchyGiven, IsAbstractOver, IsBitsOver, IsCertifyOver, IsCheckOver, IsCompositionOver, IsRefusedInOrder, IsSameOver, IsSumOver, IsTrialRefusedInOrder, LiftGiven, OfAbstract, OfActions, OfBits, OfCertify, OfCheck, OfCompose, OfEval, OfLift, OfSame, OfTable, OfTrial, OfVerify, Reads, Refuses, SimplerGiven, SpecifiedGiven, TableGiven};
 
 /// A fault with status 3 is that of a stage, whatever the command.
 pub fn status_3_is_of_a_stage()
@@ -66,13 +66,13 @@ pub fn each_command_is_refused_in_order()
     ensures status { OfActions (λ held words signature action fault. HasNoStages action → Answer words held (Err fault) → fault_status fault ≡ 2) }
 {}
 
-/// Where nothing that `bits`, `abstract`, `same`, `eval`, `table` or `lift` reads is refused, it has an answer, with `--simplify` or
-/// without it. So have all words (`some_answer_or_fault`); when the answer is a fault, the laws above say.
+/// Where nothing that `bits`, `abstract` or `same` reads is refused, with `--simplify` or without it, a reply or a stop with status 3
+/// comes of it; and where nothing that `eval`, `table` or `lift` reads is refused, a reply. When it is a stop, the laws above say.
 pub fn some_answer_over_a_circuit()
-    ensures in_bits { OfBits (λ held words signature net bound cycles simple. Reads held signature (CircuitGiven held net cycles) → HasAnswer words held) }
-    ensures in_words { OfAbstract (λ held words signature net bound cycles simple. Reads held signature (CircuitGiven held net cycles) → HasAnswer words held) }
-    ensures of_two { OfSame (λ held words signature net other bound cycles simple. Reads held signature (BothGiven held net other cycles false) → HasAnswer words held) }
-    ensures of_table { OfTable (λ held words signature net cycles. Reads held signature (TableGiven held net cycles) → HasAnswer words held) }
-    ensures of_lift { OfLift (λ held words signature file. Reads held signature (LiftGiven held file) → HasAnswer words held) }
-    ensures in_values { OfEval (λ held words signature net values cycles. Reads held signature (EvalGiven held net values cycles) → HasAnswer words held) }
+    ensures in_bits { OfBits (λ held words signature net bound cycles simple. Reads held signature (CircuitGiven held net cycles) → HasReplyOrStop words held) }
+    ensures in_words { OfAbstract (λ held words signature net bound cycles simple. Reads held signature (CircuitGiven held net cycles) → HasReplyOrStop words held) }
+    ensures of_two { OfSame (λ held words signature net other bound cycles simple. Reads held signature (BothGiven held net other cycles false) → HasReplyOrStop words held) }
+    ensures of_table { OfTable (λ held words signature net cycles. Reads held signature (TableGiven held net cycles) → HasReply words held) }
+    ensures of_lift { OfLift (λ held words signature file. Reads held signature (LiftGiven held file) → HasReply words held) }
+    ensures in_values { OfEval (λ held words signature net values cycles. Reads held signature (EvalGiven held net values cycles) → HasReply words held) }
 {}

@@ -15,7 +15,7 @@ use irreducible::combined;
 use thiserror::Error;
 
 /// A basis of a field of `2^k` elements, and its dual basis.
-#[derive(Drop)]
+#[derive(Clone, Copy)]
 pub struct Basis {
     elements: [u64; 64],
     duals: [u64; 64],

@@ -1,8 +1,7 @@
 //! Two instances of one block beside what algebra gives.
-ghost use Rattle.std.specs.Prelude.{◌≡◌, ◌+◌, ℕ, length, slice_get, IfOk, Ok, Some};
-ghost use Rattle.net_signature.specs.Body.{BlockValue};
+ghost use Rattle.std.specs.Prelude.{◌≡◌, length, IfOk};
 ghost use Rattle.job_input.specs.Setting.{AreBasesOver, AreSaid};
-ghost use Rattle.block_compose.specs.Composed.{HasBases};
+ghost use Rattle.block_compose.specs.Composed.{HasBases, HaveBlockBases};
 
 use block_compose::{BlockBases, compose};
 use gf_basis::Basis;
@@ -48,7 +47,7 @@ fn bases<F: Field>(
     signature: &Signature,
 ) -> Result<BlockBases, AllocError>
     ensures top { IfOk result (λ bases. HasBases (F.degree field.now) (F.product field.now) bases 0 signature.now.words) }
-    ensures block { IfOk result (λ bases. (number : ℕ) (block : BlockValue) → slice_get signature.now.blocks number ≡ Some block → HasBases (F.degree field.now) (F.product field.now) bases (number + 1) block.words) }
+    ensures block { IfOk result (λ bases. HaveBlockBases (F.degree field.now) (F.product field.now) bases signature.now.blocks) }
 {
     let blocks = signature.blocks();
     assert!(rt; blocks.len() == 1);
