@@ -1,6 +1,7 @@
 pub mod PortOrder
 mod NumberLemmas
 pub mod NameLemmas
+mod UnnamedLemmas
 pub mod MakeLemmas
 pub mod AwaitLemmas
 pub mod DriveLemmas

@@ -1,12 +1,14 @@
 -- Words that say numbers.
-use Rattle.std.proofs.Common.{◌≡◌, ◌∙◌, ap, sym, refl, inl, inr, ℕ, zero, suc, ◌<◌, ◌≤◌, ◌+◌, Bool, true, false, cond, List, [], ◌∷◌, ◌++◌, length, map, get_or, drop, Option, None, Some, arith, append_assoc, drop-cons, add-one, append-nil, Bor}
+use Rattle.std.proofs.Common.{◌≡◌, ◌∙◌, ap, sym, refl, inl, inr, ℕ, zero, suc, ◌<◌, ◌≤◌, ◌+◌, Bool, true, false, cond, List, [], ◌∷◌, ◌++◌, length, map, get_or, drop, Option, None, Some, arith, append_assoc, drop-cons, add-one, append-nil, Bor, ne_eqb}
+use Rattle.std.specs.Prelude.{All, IfSome, filter, nat_lt}
 use Rattle.std.specs.List.{list_all}
 use Rattle.std.specs.Option.{option_map}
 use Rattle.std.proofs.lemmas.List.{get_or-map, length-map}
 use Rattle.std.proofs.lemmas.Bool.{le-leb, leb-true, lt-ltb, ltb-true, le-ltb}
+use Rattle.std.proofs.lemmas.List.Splits.{slice_split_none}
 use Rattle.lists.specs.laws.BoolLaws.{first_true as one, second_true as other, and_made}
 use Rattle.text_core.specs.Numbers.{IsDecimal, IsDigit, digit_value, value_of}
-use Rattle.net_aiger.specs.Numbers.{is_digit, is_number, number_of, numbers_of, put_first}
+use Rattle.net_aiger.specs.Numbers.{is_digit, is_number, is_space, number_of, numbers_of, put_first, words_of}
 
 digit_is : (b : ℕ) → IsDigit 10 b → is_digit b ≡ true
 digit_is b (inl (low, high), small) = and_made _ _ (le-leb 48 b low) (le-leb b 57 high)
@@ -51,7 +53,30 @@ number_none word never = by (is_number word) refl
         let front = one _ _ is in
         absurd (never (value_of 10 word) ((ltb-true 0 (length word) (one _ _ front), each_digit word (other _ _ front)), refl) (leb-true (value_of 10 word) 4294967295 (other _ _ is)))
 
--- numbers so far, and those of the words that are left
+-- ---- a line whose only word is a number
+
+no_space : (b : ℕ) → is_digit b ≡ true → is_space b ≡ false
+no_space b is = let low : 48 ≤ b = leb-true 48 b (one _ _ is) in ne_eqb b 32 (λ e. omega (arith, low, e))
+
+no_spaces : (word : List ℕ) → list_all is_digit word ≡ true → All (λ b. is_space b ≡ false) word
+no_spaces [] all k d less = absurd (omega arith)
+no_spaces (b ∷ bs) all zero d less = no_space b (one _ _ all)
+no_spaces (b ∷ bs) all (suc k) d less = no_spaces bs (other _ _ all) k d (omega arith)
+
+pub lone_word : (line : List ℕ) → IfSome (number_of line) (λ n. numbers_of (words_of line) ≡ Some (n ∷ []))
+lone_word line = by (is_number line) refl
+  where
+    by : (b : Bool) → is_number line ≡ b → IfSome (cond b (Some (value_of 10 line)) None) (λ n. numbers_of (words_of line) ≡ Some (n ∷ []))
+    by false is = tt
+    by true is =
+        let front = one _ _ is in
+        let split : words_of line ≡ filter (λ (word : List ℕ). nat_lt 0 (length word)) (line ∷ []) = ap (filter (λ (word : List ℕ). nat_lt 0 (length word))) (slice_split_none is_space line (no_spaces line (other _ _ front))) in
+        let alone : words_of line ≡ line ∷ [] = split ∙ ap (λ (some : Bool). cond some (line ∷ []) []) (one _ _ front) in
+        let said : number_of line ≡ Some (value_of 10 line) = rw is refl in
+        ap numbers_of alone ∙ ap (λ (found : Option ℕ). put_first found (Some [])) said
+
+-- ---- numbers so far, and those of the words that are left
+
 pub after_numbers : List ℕ → Option (List ℕ) → Option (List ℕ)
 after_numbers before rest = option_map (λ ns. before ++ ns) rest
 

@@ -1,8 +1,10 @@
 //! What is asked of a text once it was read.
-ghost use Rattle.std.specs.Prelude.{◌≡◌, ◌⊎◌, ◌+◌, ◌<◌, ◌++◌, ◌∷◌, [], ℕ, List, Ok, Err, Some, true, not, IfOk, IfErr, IfSome, OnOk, length};
+ghost use Rattle.std.specs.Prelude.{◌≡◌, ◌⊎◌, ◌+◌, ◌<◌, ◌≤◌, ◌&&◌, ◌++◌, ◌∷◌, [], ℕ, List, Ok, Err, Some, is_some, nat_eq, true, not, IfOk, IfErr, IfSome, OnOk, length};
 ghost use Rattle.std.specs.List.{list_any};
+ghost use Rattle.std.specs.Map.{lookup};
 ghost use Rattle.std.specs.Str.{bytes_eq};
 ghost use Rattle.net_aiger.specs.Checks.{apart, is_known as knows, known, own as own_of, own_net};
+ghost use Rattle.net_aiger.specs.Reading.{driven};
 
 use crate::AigerFault;
 use crate::reader::{Reader, even};
@@ -74,12 +76,31 @@ impl Reader {
         literal < 2 || self.defined.contains(&even(literal))
     }
 
-    // The net of an input or latch, if it has the name of a port.
+    // Whether a literal is known, where another one is.
+    fn is_known_after(&self, other: u32, literal: u32) -> bool
+        requires { knows self.now.defined other ≡ true }
+        ensures { result ≡ knows self.now.defined literal }
+    {
+        literal == other || self.is_known(literal)
+    }
+
+    // Whether neither of two ports is given a name. Then their names are different.
+    fn have_none(&self, port: u64, other: u64) -> bool
+        ensures { result ≡ (not (is_some (lookup (nat_eq port) self.now.symbols)) && not (is_some (lookup (nat_eq other) self.now.symbols))) }
+    {
+        !self.symbols.contains_key(&port) && !self.symbols.contains_key(&other)
+    }
+
+    // The net of an input or latch, if it has the name of a port behind it.
     fn of_name(&self, port: u64, net: u32) -> Result<Option<u32>, AllocError>
+        requires { driven self.now.header ≤ port }
         ensures own { IfOk result (λ found. found ≡ own_net self.now port (Some net)) }
         ensures same { IfOk result (λ found. IfSome found (λ n. n ≡ net)) }
     {
         if u64::from(net) >= self.header.driven() {
+            return Ok(None);
+        }
+        if self.have_none(port, u64::from(net)) {
             return Ok(None);
         }
         let name = self.port_name(port)?;
@@ -122,14 +143,16 @@ impl Reader {
     }
 }
 
-// Refuses the first use of a variable without a definition.
+// Refuses the first use of a variable without a definition. What is used twice in a row is looked up once.
 fn check_uses(reader: &Reader, uses: &[Use]) -> Result<(), AigerFault>
     ensures { result ≡ known reader.now.defined uses.now }
 {
+    let mut last = 0;
     for one in uses {
-        if !reader.is_known(one.literal) {
+        if !reader.is_known_after(last, one.literal) {
             return Err(AigerFault::Undefined { line: one.line });
         }
+        last = one.literal;
     }
     Ok(())
 }
@@ -154,11 +177,16 @@ impl Reader {
     }
 
     /// Refuses the first input, latch or output with the name of an earlier one; an output that is one of them is passed over.
+    /// Where none is given a name, all are different.
     pub(crate) fn check_names(&self, key: u64) -> Result<(), AigerFault>
         ensures made { OnOk result (apart self.now 0 [] self.now.ports ≡ Ok tt) }
         ensures fault { IfErr result (λ e. (e ≡ AigerFault.OutOfMemory) ⊎ (apart self.now 0 [] self.now.ports ≡ Err e)) }
     {
+        let ports = self.ports();
+        if self.are_unnamed() {
+            return Ok(());
+        }
         let mut names = NameSet::new(self.alloc, key);
-        check_ports(self, &mut names, self.ports())
+        check_ports(self, &mut names, ports)
     }
 }

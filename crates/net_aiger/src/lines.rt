@@ -4,7 +4,7 @@ ghost use Rattle.net_aiger.specs.private.Run.{and_line as and_says, define as de
 ghost use Rattle.net_aiger.specs.Numbers.{numbers_of, words_of};
 
 use crate::AigerFault;
-use crate::numbers::numbers_in;
+use crate::numbers::{lone_number, numbers_in};
 use crate::reader::Reader;
 use crate::reading::{AndLine, LatchLine, Use};
 use net_core::Start;
@@ -162,8 +162,8 @@ impl Reader {
         }
     }
 
-    // What a line says that is to say numbers.
-    fn number_line(&mut self, line: u32, bytes: &[u8]) -> Result<(), AigerFault>
+    // What a line says that is to say numbers, which are put into a list.
+    fn listed_line(&mut self, line: u32, bytes: &[u8]) -> Result<(), AigerFault>
         ensures made { OnOk result (numbers_say line (numbers_of (words_of bytes.now)) self.old ≡ Ok self.new) }
         ensures fault { IfErr result (λ e. (e ≡ AigerFault.OutOfMemory) ⊎ (numbers_say line (numbers_of (words_of bytes.now)) self.old ≡ Err e)) }
     {
@@ -171,6 +171,17 @@ impl Reader {
             return Err(AigerFault::Syntax { line });
         };
         self.section_line(line, &numbers)
+    }
+
+    // What a line says that is to say numbers. Most say one, which needs no list.
+    fn number_line(&mut self, line: u32, bytes: &[u8]) -> Result<(), AigerFault>
+        ensures made { OnOk result (numbers_say line (numbers_of (words_of bytes.now)) self.old ≡ Ok self.new) }
+        ensures fault { IfErr result (λ e. (e ≡ AigerFault.OutOfMemory) ⊎ (numbers_say line (numbers_of (words_of bytes.now)) self.old ≡ Err e)) }
+    {
+        match lone_number(bytes) {
+            Some(number) => self.section_line(line, &[number]),
+            None => self.listed_line(line, bytes),
+        }
     }
 
     /// What one more line says.

@@ -1,5 +1,5 @@
 //! The words of a line, and the numbers that they say.
-ghost use Rattle.std.specs.Prelude.{◌≡◌, IfOk, map};
+ghost use Rattle.std.specs.Prelude.{◌≡◌, ◌∷◌, [], IfOk, IfSome, Some, map};
 ghost use Rattle.std.specs.Option.{option_map};
 ghost use Rattle.net_aiger.specs.Numbers.{number_of, numbers_of, words_of};
 
@@ -14,6 +14,13 @@ pub(crate) fn number(word: &[u8]) -> Option<u32>
         Some(number) => Some(number as u32),
         None => None,
     }
+}
+
+/// The number that a line says whose only word it is, without a space. It takes no memory.
+pub(crate) fn lone_number(line: &[u8]) -> Option<u32>
+    ensures { IfSome result (λ n. numbers_of (words_of line.now) ≡ Some (n ∷ [])) }
+{
+    number(line)
 }
 
 /// The words of a line, which spaces separate.

@@ -1,5 +1,5 @@
 //! What was read of a text.
-ghost use Rattle.std.specs.Prelude.{◌≡◌, ◌<◌, ◌++◌, IfOk, IfSome, drop, length, slice_get, Some};
+ghost use Rattle.std.specs.Prelude.{◌≡◌, ◌<◌, ◌^◌, ◌++◌, [], IfOk, IfSome, drop, length, slice_get, true, Some};
 ghost use Rattle.std.specs.Fmt.{decimal};
 ghost use Rattle.net_core.specs.Inside.{IsNetName};
 ghost use Rattle.net_aiger.specs.private.Run.{ends as line_ends, is_complete as complete};
@@ -128,9 +128,17 @@ impl Reader {
 
     /// The literals of the ports.
     pub(crate) fn ports(&self) -> &[u32]
-        ensures { result.now ≡ self.now.ports }
+        ensures ports { result.now ≡ self.now.ports }
+        ensures small { length result.now < 2 ^ 63 }
     {
         self.ports.as_slice()
+    }
+
+    /// Whether no port is given a name.
+    pub(crate) fn are_unnamed(&self) -> bool
+        ensures { result ≡ true → self.now.symbols ≡ [] }
+    {
+        self.symbols.is_empty()
     }
 
     /// The literals that lines use.

@@ -1,0 +1,9 @@
+use Rattle.std.proofs.Common.{rules, ◌≡◌, ◌<◌, ◌^◌, ℕ, List, length, subst, true}
+use Rattle.net_aiger.proofs.UnnamedLemmas.{unnamed_apart}
+use Rattle.net_aiger.proofs.reader.Reader.check_names.Goals as goal
+
+pub returns-then-are_unnamed-clause-made : goal.returns-then-are_unnamed-clause-made
+returns-then-are_unnamed-clause-made c =
+    let none : c.are_unnamed.result ≡ true = search rules in
+    let P : List ℕ → Type 0 = λ ports. length ports < 2 ^ 63 in
+    unnamed_apart c.args.self.now (c.are_unnamed.ensures none) (subst P c.ports-ports.ensures.ports c.ports-ports.ensures.small)
