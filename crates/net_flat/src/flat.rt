@@ -1,8 +1,8 @@
 //! The net of a model.
-ghost use Rattle.std.specs.Prelude.{◌≡◌, ◌⊎◌, Ok, Err, IfOk, IfErr};
-ghost use Rattle.net_core.specs.NetList.{empty};
+ghost use Rattle.std.specs.Prelude.{◌≡◌, ◌⊎◌, ℕ, List, Ok, Err, IfOk, IfErr};
+ghost use Rattle.net_blif.specs.Design.{ModelValue};
 ghost use Rattle.net_flat.specs.Flat.{Flattens};
-ghost use Rattle.net_flat.specs.private.LocalWalk.{InTop, IsFaultOf, IsWalked, local_within, state_with};
+ghost use Rattle.net_flat.specs.private.LocalWalk.{IsFaultOf, IsWalked, local_walk};
 
 use crate::FlatFault;
 use crate::walker::{Walker, fault_of};
@@ -15,12 +15,23 @@ const MAX_CHAIN: u32 = 64;
 
 // The net list of a model's walk.
 fn walk(alloc: Global, design: &Design, model: u32) -> Result<NetMaker, FlatFault>
-    ensures made { IfOk result (λ maker. IsWalked (local_within 64 design.now (state_with empty 0 InTop) model) maker) }
-    ensures fault { IfErr result (IsFaultOf (local_within 64 design.now (state_with empty 0 InTop) model)) }
+    ensures made { IfOk result (λ maker. IsWalked (local_walk design.now model) maker) }
+    ensures fault { IfErr result (IsFaultOf (local_walk design.now model)) }
 {
     let mut walker = Walker::new(alloc, design.key());
     walker.walk(design, model, MAX_CHAIN)?;
     Ok(walker.into_maker())
+}
+
+// The net of the net list of a model's walk, if it is sound.
+fn finished(maker: NetMaker) -> Result<Net, FlatFault>
+    ensures net { (d : List ModelValue) (m : ℕ) → IsWalked (local_walk d m) maker → IfOk result (λ net. Flattens d m (Ok net)) }
+    ensures fault { (d : List ModelValue) (m : ℕ) → IsWalked (local_walk d m) maker → IfErr result (λ e. (e ≡ FlatFault.OutOfMemory) ⊎ Flattens d m (Err e)) }
+{
+    match maker.finish() {
+        Ok(net) => Ok(net),
+        Err(fault) => Err(fault_of(fault)),
+    }
 }
 
 /// The net of a model: its lines are walked in order, each name that is mentioned first makes a net, and gates, latches,
@@ -35,8 +46,16 @@ pub fn flatten(alloc: Global, design: &Design, model: u32) -> Result<Net, FlatFa
     ensures fault { IfErr result (λ e. (e ≡ FlatFault.OutOfMemory) ⊎ Flattens design.now model (Err e)) }
 {
     let maker = walk(alloc, design, model)?;
-    match maker.finish() {
-        Ok(net) => Ok(net),
-        Err(fault) => Err(fault_of(fault)),
-    }
+    finished(maker)
+}
+
+/// The same net of a design that is let go as soon as its lines were walked: its text is out of memory before the drivers and
+/// levels of the nets are found. A caller that has no other use of the design needs less memory by it.
+pub fn flatten_design(alloc: Global, design: Design, model: u32) -> Result<Net, FlatFault>
+    ensures net { IfOk result (λ net. Flattens design model (Ok net)) }
+    ensures fault { IfErr result (λ e. (e ≡ FlatFault.OutOfMemory) ⊎ Flattens design model (Err e)) }
+{
+    let maker = walk(alloc, &design, model)?;
+    drop(design);
+    finished(maker)
 }

@@ -18,7 +18,7 @@ mod scope;
 mod walk;
 mod walker;
 
-pub use flat::flatten;
+pub use flat::{flatten, flatten_design};
 pub use flat_fault::FlatFault;
 pub use laws::one_net_or_fault;
 pub use part_laws::{
