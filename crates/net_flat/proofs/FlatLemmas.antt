@@ -8,7 +8,8 @@ use Rattle.net_core.proofs.SettleLemmas.{settles}
 use Rattle.net_blif.specs.Design.{ModelValue}
 use Rattle.net_flat.specs.Walk.{walk_of}
 use Rattle.net_flat.specs.Flat.{net_list, nothing, walked, Flat, Flattens}
-use Rattle.net_flat.specs.private.LocalWalk.{local_walk, IsFaultOf, IsWalked, State}
+use Rattle.net_flat.specs.private.LocalWalk.{IsFaultOf, IsWalked, State}
+use Rattle.net_flat.specs.private.WholeWalk.{local_walk}
 use Rattle.net_flat.specs.declared.flat_fault.FlatFault.{FlatFault}
 use Rattle.net_flat.specs.declared.flat_fault.FlatFault.TheVariants.{Net, OutOfMemory}
 use Rattle.net_flat.proofs.SameLemmas.{walk_same, Same}

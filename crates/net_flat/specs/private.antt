@@ -4,3 +4,4 @@ pub mod KnownNumbers
 pub mod LocalScope
 pub mod WalkerState
 pub mod Entering
+pub mod WholeWalk

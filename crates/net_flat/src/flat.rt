@@ -2,7 +2,8 @@
 ghost use Rattle.std.specs.Prelude.{◌≡◌, ◌⊎◌, ℕ, List, Ok, Err, IfOk, IfErr};
 ghost use Rattle.net_blif.specs.Design.{ModelValue};
 ghost use Rattle.net_flat.specs.Flat.{Flattens};
-ghost use Rattle.net_flat.specs.private.LocalWalk.{IsFaultOf, IsWalked, local_walk};
+ghost use Rattle.net_flat.specs.private.LocalWalk.{IsFaultOf, IsWalked};
+ghost use Rattle.net_flat.specs.private.WholeWalk.{local_walk};
 
 use crate::FlatFault;
 use crate::walker::{Walker, fault_of};

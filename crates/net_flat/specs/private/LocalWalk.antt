@@ -4,7 +4,7 @@ use Rattle.std.specs.Fmt.{decimal}
 use Rattle.std.specs.Option.{option_map_or}
 use Rattle.lists.specs.Limits.{most_nets}
 use Rattle.outcome.specs.Steps.{on_value}
-use Rattle.net_core.specs.NetList.{NetList, empty, nets, number_of, with_gate, with_label, with_latch}
+use Rattle.net_core.specs.NetList.{NetList, nets, number_of, with_gate, with_label, with_latch}
 use Rattle.net_core.specs.GateValue.{GateValue}
 use Rattle.net_core.specs.LatchValue.{LatchValue}
 use Rattle.net_core.specs.declared.latch.Start.{Start}
@@ -133,10 +133,6 @@ local_within (suc depth) design state model = local_lines (local_within depth de
 -- an instance, and then its body, through at most so many models one inside another
 abbrev pub local_instance : ℕ → List ModelValue → State → ℕ → Token → List Token → ℕ → Result State FlatFault
 local_instance depth design state number name connections line = local_line (local_within depth design) design state number (items.Instance line name connections)
-
--- the walk over the chosen model: no chain of instances of a design has more than 64 models
-abbrev pub local_walk : List ModelValue → ℕ → Result State FlatFault
-local_walk design model = local_within 64 design (state_with empty 0 InTop) model
 
 -- each name has a net
 abbrev pub HasEach : State → List Token → Type 0
