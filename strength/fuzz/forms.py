@@ -32,6 +32,19 @@ def instances(count):
     return filled(WIRE, b'.subckt e\n', len(WIRE) + 10 * count + len(EMPTY), EMPTY)
 
 
+def ports(count, before, port, after):
+    """The given number of instances of a model whose one port stands as often in it: the pieces before, at each time and after."""
+    def pieces():
+        yield WIRE
+        for _ in range(count // 1000):
+            yield b'.subckt e\n' * 1000
+        yield b'.end\n.model e\n' + before
+        for _ in range(count // 1000):
+            yield port * 1000
+        yield after + b'.names y\n1\n.end\n'
+    return pieces
+
+
 def row_of(count):
     """The given number of instances, one after the other, of the wire m from a to z."""
     def pieces():
@@ -84,6 +97,8 @@ ACCEPTED = 'accepted\nZ = A'
 HIERARCHIES = [
     hierarchy('1,048,576 instances', 'abstract', instances(1048576), 0, 'Z = A'),
     hierarchy('1,048,577 instances', 'abstract', instances(1048577), 2, 'fault 38: too many instances in HIER'),
+    hierarchy('1,000,000 instances, and lines of their one output', 'abstract', ports(1000000, b'', b'.outputs y\n', b''), 0, 'Z = A'),
+    hierarchy('1,000,000 instances, and a line of their one output', 'abstract', ports(1000000, b'.outputs', b' y', b'\n'), 0, 'Z = A'),
     hierarchy('64 models deep', 'abstract', nested(64), 0, 'Z = A'),
     hierarchy('65 models deep', 'abstract', nested(65), 2, 'fault 32: more than 64 models deep in HIER'),
     hierarchy('1,048,575 instances, one behind the other', 'abstract', row_of(1048575), 0, 'Z = A'),

@@ -36,14 +36,14 @@ module _ (models : List ModelValue) (k : ℕ) (items : List Item) (whole : Optio
       let P : List Item → Type 0 = λ xs. IsFault (first_found (instance_fault models) xs) fault in
       fault_got (fault_in models) models k m.0 whole fault m.1 so_far (subst P (is ∙ m.2) found)
 
--- the formals of one model more
-pub formals_more : (models : List ModelValue) (k : ℕ) (items : List Item) (formals : FormalsValue) (old new : List FormalsValue) → k < length models → items ≡ items_of models k → formals ≡ collected items → old ≡ map (λ (m : ModelValue). collected m.items) (take k models) → new ≡ old ++ formals ∷ [] → new ≡ map (λ (m : ModelValue). collected m.items) (take (k + 1) models)
-formals_more models k items formals old new below is same was pushed =
+-- what is made of one model more
+pub made_more : {F : Type 0} (make : List Item → F) (models : List ModelValue) (k : ℕ) (items : List Item) (made : F) (old new : List F) → k < length models → items ≡ items_of models k → made ≡ make items → old ≡ map (λ (m : ModelValue). make m.items) (take k models) → new ≡ old ++ made ∷ [] → new ≡ map (λ (m : ModelValue). make m.items) (take (k + 1) models)
+made_more {F = F} make models k items made old new below is same was pushed =
     let m = model_got models k below in
     let at : get_or models k m.0 ≡ m.0 = get_or_from_slice_get models k m.0 m.0 (sym m.1) in
     let one : k + 1 ≡ suc k = omega arith in
     let whole : take (k + 1) models ≡ take k models ++ m.0 ∷ [] = rw one (take-suc models k m.0 below ∙ ap (λ (x : ModelValue). take k models ++ x ∷ []) at) in
-    pushed ∙ (ap (λ (o : List FormalsValue). o ++ formals ∷ []) was ∙ (ap (λ (f : FormalsValue). map (λ (m : ModelValue). collected m.items) (take k models) ++ f ∷ []) (same ∙ ap collected (is ∙ m.2)) ∙ (sym (map_push (λ (m : ModelValue). collected m.items) (take k models) m.0) ∙ ap (λ (ms : List ModelValue). map (λ (m : ModelValue). collected m.items) ms) (sym whole))))
+    pushed ∙ (ap (λ (o : List F). o ++ made ∷ []) was ∙ (ap (λ (f : F). map (λ (m : ModelValue). make m.items) (take k models) ++ f ∷ []) (same ∙ ap make (is ∙ m.2)) ∙ (sym (map_push (λ (m : ModelValue). make m.items) (take k models) m.0) ∙ ap (λ (ms : List ModelValue). map (λ (m : ModelValue). make m.items) ms) (sym whole))))
 
 -- the formals of a model
 pub formals_got : {A : Type 0} (view : A → FormalsValue) (models : List ModelValue) (all : List A) (k : ℕ) (formals : A) → map view all ≡ map (λ (m : ModelValue). collected m.items) models → k < length models → formals ≡ get_or all k formals → view formals ≡ collected (items_of models k)

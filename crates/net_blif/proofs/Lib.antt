@@ -19,5 +19,7 @@ pub mod InstanceLemmas
 pub mod ChainLemmas
 pub mod RightLemmas
 pub mod BareLemmas
+pub mod OnceLemmas
+pub mod BodyLemmas
 pub mod TopLemmas
 mod Examples

@@ -1,6 +1,7 @@
 -- Loops over lists, one element after another.
-use Rattle.std.proofs.Common.{◌≡◌, ◌∙◌, inl, inr, ap, sym, refl, ℕ, zero, suc, ◌<◌, ◌≤◌, ◌+◌, ◌-◌, Bool, true, false, cond, List, [], ◌∷◌, length, drop, get_or, Option, None, Some, arith, drop-cons, add-one}
+use Rattle.std.proofs.Common.{◌≡◌, ◌∙◌, inl, inr, ap, sym, refl, ℕ, zero, suc, ◌<◌, ◌≤◌, ◌+◌, ◌-◌, Bool, true, false, cond, List, [], ◌∷◌, ◌++◌, length, take, drop, get_or, Option, None, Some, arith, drop-cons, add-one}
 use Rattle.std.specs.Prelude.{filter, slice_get}
+use Rattle.std.proofs.Math.Seq.{take-suc}
 use Rattle.std.proofs.lemmas.Option.{get_or_from_slice_get, slice_get_within}
 use Rattle.net_blif.specs.Statement.{Token}
 use Rattle.net_blif.specs.Connection.{formal_of}
@@ -65,6 +66,10 @@ module _ {A : Type 0} (test : A → Bool) (xs : List A) (i left : ℕ) (x : A) (
       by : (b : Bool) → test x ≡ b → filter test (drop i xs) ≡ cond b (x ∷ filter test (drop (i + 1) xs)) (filter test (drop (i + 1) xs)) → new ≡ cond b (left - 1) left → new < length (filter test (drop (i + 1) xs))
       by true passes e n = omega (arith, less, ap length e, n, some passes)
       by false passes e n = omega (arith, less, ap length e, n)
+
+-- a copy of one element more
+pub copy_step : {A : Type 0} (xs : List A) (i : ℕ) (x y d : A) (old new : List A) → i < length xs → x ≡ get_or xs i d → y ≡ x → old ≡ take i xs → new ≡ old ++ y ∷ [] → new ≡ take (i + 1) xs
+copy_step {A = A} xs i x y d old new below is same was pushed = rw add-one (pushed ∙ (ap (λ (o : List A). o ++ y ∷ []) was ∙ (ap (λ (z : A). take i xs ++ z ∷ []) (same ∙ is) ∙ sym (take-suc xs i d below))))
 
 pub after_step : {A B : Type 0} (f : A → B → A) (xs : List B) (i : ℕ) (x d : B) (whole a new : A) → i < length xs → x ≡ get_or xs i d → whole ≡ after f a (drop i xs) → new ≡ f a x → whole ≡ after f new (drop (i + 1) xs)
 after_step f xs i x d whole a new below is so_far made = so_far ∙ (ap (after f a) (rest_at xs i x d below is) ∙ ap (λ b. after f b (drop (i + 1) xs)) (sym made))

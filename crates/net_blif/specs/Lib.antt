@@ -8,6 +8,7 @@ pub mod Item
 pub mod Places
 pub mod Design
 pub mod Table
+pub mod Ports
 pub mod Instances
 pub mod Chains
 pub mod Models

@@ -4,3 +4,5 @@ pub mod FirstLine
 pub mod Rows
 pub mod ReadOn
 pub mod Bare
+pub mod Once
+pub mod Bodies

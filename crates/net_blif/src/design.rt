@@ -3,10 +3,12 @@ ghost use Rattle.std.specs.Prelude.{◌≡◌, ◌⊎◌, ◌<◌, ◌^◌, Ok, 
 ghost use Rattle.std.specs.List.{list_any};
 ghost use Rattle.net_blif.specs.Design.{ModelValue, items_of, model_named};
 ghost use Rattle.net_blif.specs.Models.{AreRight};
+ghost use Rattle.net_blif.specs.Ports.{IsBody};
 ghost use Rattle.net_blif.specs.Top.{instances_of};
 ghost use Rattle.net_blif.specs.private.Bare.{has_instances};
 
 use crate::BlifFault;
+use crate::bodies::{body_or, kept_bodies};
 use crate::chains::{check_depth, check_walk, graph};
 use crate::instances::check_instances;
 use crate::item_list::ItemList;
@@ -17,9 +19,12 @@ use std::marker::Model;
 /// The models of a text in BLIF, in order. Contracts see the list of models; model 0 is the top.
 /// The type keeps that there is a top, that instances are of models that there are, with the formals that these have,
 /// that from the top no model contains itself, and that no chain of instances from the top has more than 64 models.
+/// Where a port of some model stands twice, the lines of each model are kept with each port once, too: so a walk that goes
+/// through a model in each of its instances does not meet it in each line again.
 #[derive(Drop)]
 pub struct Design {
     models: ModelList,
+    bodies: Vec<ItemList>,
 }
 
 impl Model for Design {
@@ -27,12 +32,14 @@ impl Model for Design {
     ghost use Rattle.net_blif.specs.Design.{ModelValue};
     ghost use Rattle.net_blif.specs.Models.{AreRight};
     ghost use Rattle.net_blif.specs.Top.{instances_of};
+    ghost use Rattle.net_blif.specs.private.Bodies.{AreBodies};
 
     ghost Value = { List ModelValue };
 
     ghost view = { λ d. d.models };
 
-    ghost invariant = { λ d. (0 < length d.models) × AreRight d.models (Ok tt) × (length (instances_of d.models) < 2 ^ 32) };
+    ghost invariant = { λ d. (0 < length d.models) × AreRight d.models (Ok tt) × (length (instances_of d.models) < 2 ^ 32)
+        × AreBodies d.models d.bodies.items };
 }
 
 // Whether some model has instances.
@@ -77,7 +84,8 @@ impl Design {
         let Ok(_) = u32::try_from(models.items(0).len()) else {
             return Err(BlifFault::OutOfMemory);
         };
-        Ok(Design { models })
+        let bodies = kept_bodies(alloc, &models)?;
+        Ok(Design { models, bodies })
     }
 
     /// How many models there are.
@@ -111,6 +119,15 @@ impl Design {
         ensures { result.now ≡ items_of self.now model }
     {
         self.models.items(model)
+    }
+
+    /// What a walk in an instance of a model goes through: what its lines place, or that with each port once, where it stands
+    /// first, since in an instance a port is only mentioned. Which of the two it is makes no difference but of time.
+    pub fn body(&self, model: u32) -> &ItemList
+        requires { model < length self.now }
+        ensures { IsBody (items_of self.now model) result.now }
+    {
+        body_or(&self.bodies, model, self.models.items(model))
     }
 
     /// What the lines of the top, which model 0 is, place, in order.

@@ -1,6 +1,7 @@
 //! Netlists in BLIF: the models that a text describes, with their gates, latches and instances.
 #![tactic(auto)]
 
+mod bodies;
 mod chains;
 mod connection;
 mod cover;
@@ -15,9 +16,11 @@ mod item_list;
 mod laws;
 mod lines;
 mod model_list;
+mod once;
 mod open_model;
 mod read;
 mod reader;
+mod repeats;
 mod rows;
 mod spelling;
 mod statement;

@@ -6,6 +6,7 @@ pub mod MarkLemmas
 pub mod LabelLemmas
 pub mod KeepLemmas
 pub mod EnterLemmas
+pub mod OnceLemmas
 pub mod DriveLemmas
 pub mod FlatLemmas
 pub mod FlatDetermined

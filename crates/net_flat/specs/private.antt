@@ -1,4 +1,5 @@
 pub mod LocalWalk
+pub mod Lines
 pub mod Marking
 pub mod KnownNumbers
 pub mod LocalScope

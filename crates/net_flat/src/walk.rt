@@ -1,9 +1,9 @@
 //! The walk through instances.
-ghost use Rattle.std.specs.Prelude.{◌≡◌, ℕ, ◌<◌, ◌+◌, ◌^◌, ◌++◌, ◌∷◌, Ok, Some, None, All, IsTrue, IfOk, IfErr, IfSome, IfNone, OnOk, codes, map, string_bytes};
+ghost use Rattle.std.specs.Prelude.{◌≡◌, ℕ, ◌<◌, ◌+◌, ◌^◌, ◌++◌, ◌∷◌, Ok, Some, None, All, IsTrue, IfOk, IfErr, IfSome, IfNone, OnOk, codes, length, map, string_bytes};
 ghost use Rattle.std.specs.Fmt.{decimal};
 ghost use Rattle.std.specs.List.{list_all};
 ghost use Rattle.net_blif.specs.Connection.{actual_of, is_connection};
-ghost use Rattle.net_blif.specs.Design.{model_named};
+ghost use Rattle.net_blif.specs.Design.{items_of, model_named};
 ghost use Rattle.net_blif.specs.Item.{IsSoundItem};
 ghost use Rattle.net_blif.specs.Statement.{IsToken};
 ghost use Rattle.net_blif.specs.Table.{no_numbers};
@@ -11,6 +11,7 @@ ghost use Rattle.net_flat.specs.Steps.{Enter, actual_steps};
 ghost use Rattle.net_flat.specs.Walk.{next_number};
 ghost use Rattle.net_flat.specs.private.KnownNumbers.{known_in};
 ghost use Rattle.net_flat.specs.private.LocalScope.{local_in};
+ghost use Rattle.net_flat.specs.private.Lines.{AreLinesIn};
 ghost use Rattle.net_flat.specs.private.LocalWalk.{AreInside, IsFaultOf, entered, local_instance, local_line, local_walked, local_within, number_in, numbers_of as numbers_of_actuals, prefix_in};
 ghost use Rattle.net_flat.specs.private.WalkerState.{state_of};
 ghost use Rattle.net_flat.specs.private.Entering.{HasEntered, HasMentioned};
@@ -19,7 +20,7 @@ use crate::FlatFault;
 use crate::known_names::KnownNames;
 use crate::scope::Scope;
 use crate::walker::Walker;
-use net_blif::{Design, Item, TokenSlice, sides, text_of};
+use net_blif::{Design, Item, ItemList, TokenSlice, sides, text_of};
 use std::alloc::AllocError;
 use std::mem;
 
@@ -169,6 +170,18 @@ impl<'a> Walker<'a> {
         self.instance(design, number, model.bytes(), connections, depth)
     }
 
+    // The lines that the walk over a model goes through: in an instance its body.
+    fn lines_of(&self, design: &'a Design, model: u32) -> &'a ItemList
+        requires { model < length design.now }
+        ensures { AreLinesIn (state_of self.now).local (items_of design.now model) result.now }
+    {
+        if self.scope.is_top {
+            design.items(model)
+        } else {
+            design.body(model)
+        }
+    }
+
     /// Walks the lines of a model, through at most so many models one inside another.
     #[cycle(walk)]
     pub fn walk(&mut self, design: &'a Design, model: u32, depth: u32) -> Result<(), FlatFault>
@@ -180,7 +193,7 @@ impl<'a> Walker<'a> {
         if depth == 0 || model >= design.models() {
             return Ok(());
         }
-        let lines = design.items(model);
+        let lines = self.lines_of(design, model);
         let mut met = 0u64;
         for place in 0..lines.len() {
             let item = lines.get(place);

@@ -5,7 +5,8 @@ use Rattle.net_blif.specs.declared.item.Item.{Item}
 use Rattle.net_blif.specs.declared.item.Item.TheVariants as items
 use Rattle.net_flat.specs.private.LocalWalk.{local_line, local_lines, local_within, IsFaultOf}
 use Rattle.net_flat.specs.private.WalkerState.{state_of}
-use Rattle.net_flat.proofs.EnterLemmas.{back_inside, entered_some, few_met, line_made, line_refused, lines_refused, more_lines, walk_lines, walk_none, walk_past}
+use Rattle.net_flat.proofs.EnterLemmas.{back_inside, entered_some, few_met, line_made, line_refused, lines_refused, more_lines, walk_none, walk_past}
+use Rattle.net_flat.proofs.OnceLemmas.{walk_through}
 use Rattle.net_flat.proofs.walker.Walker.+walk.Goals as goal
 use Rattle.net_flat.proofs.walker.Walker.+walk.Goals.{walk-then-depth-eq0-via-then-depth-eq0, walk-then-depth-eq0-via-else-depth-eq0+then-model-models}
 
@@ -46,8 +47,8 @@ walk-returns-then-depth-eq0-clause-made t c =
 
 pub walk-returns-in_err-line-clause-fault : goal.walk-returns-in_err-line-clause-fault
 walk-returns-in_err-line-clause-fault t c =
-    let start = walk_lines c.args.depth c.args.design.now (state_of c.args.self.now) c.args.model c.items-lines.result.now c.if-depth-eq0.false c.items-lines.ensures in
-    let fault : IsFaultOf (local_within c.args.depth c.args.design.now (state_of c.args.self.now) c.args.model) c.in_err-line.field-0.0 = lines_refused (local_within (c.args.depth - 1) c.args.design.now) c.args.design.now c.items-lines.result.now c.loop-place.place c.get-item.result c.get-item.ensures.item (state_of c.loop-place.self) (c.loop-place.met + 1) _ (start ∙ c.loop-place.invariant.walk) c.in_err-line.field-0.0 c.in_err-line.ensures.fault in
+    let start = walk_through c.args.depth c.args.design.now (state_of c.args.self.now) c.args.model c.lines_of-lines.result.now c.if-depth-eq0.false c.lines_of-lines.ensures in
+    let fault : IsFaultOf (local_within c.args.depth c.args.design.now (state_of c.args.self.now) c.args.model) c.in_err-line.field-0.0 = lines_refused (local_within (c.args.depth - 1) c.args.design.now) c.args.design.now c.lines_of-lines.result.now c.loop-place.place c.get-item.result c.get-item.ensures.item (state_of c.loop-place.self) (c.loop-place.met + 1) _ (start ∙ c.loop-place.invariant.walk) c.in_err-line.field-0.0 c.in_err-line.ensures.fault in
     search rules
 
 pub walk-met_with-met-requires : goal.walk-met_with-met-requires
@@ -58,11 +59,11 @@ walk-loop-place-preserved t c =
     record {
       inside = c.in_ok-line.ensures.inside;
       few = few_met c.loop-place.met c.met_with-met.result c.loop-place.place c.get-item.result c.loop-place.invariant.few c.met_with-met.ensures;
-      walk = more_lines (local_within (c.args.depth - 1) c.args.design.now) c.args.design.now c.items-lines.result.now c.loop-place.place c.get-item.result c.get-item.ensures.item (state_of c.loop-place.self) (c.loop-place.met + 1) _ c.loop-place.invariant.walk (state_of c.line.new.self) (c.met_with-met.result + 1) c.met_with-met.ensures c.in_ok-line.ensures.made;
+      walk = more_lines (local_within (c.args.depth - 1) c.args.design.now) c.args.design.now c.lines_of-lines.result.now c.loop-place.place c.get-item.result c.get-item.ensures.item (state_of c.loop-place.self) (c.loop-place.met + 1) _ c.loop-place.invariant.walk (state_of c.line.new.self) (c.met_with-met.result + 1) c.met_with-met.ensures c.in_ok-line.ensures.made;
     }
 
 pub walk-returns-clause-made : goal.walk-returns-clause-made
 walk-returns-clause-made t c =
-    let past : length c.items-lines.result.now ≤ c.loop-place.place = rw c.len-place-end.ensures at c.loop-place-test.false in
-    let start = walk_lines c.args.depth c.args.design.now (state_of c.args.self.now) c.args.model c.items-lines.result.now c.if-depth-eq0.false c.items-lines.ensures in
-    start ∙ (c.loop-place.invariant.walk ∙ ap (λ (ls : List Item). local_lines (local_within (c.args.depth - 1) c.args.design.now) c.args.design.now (state_of c.loop-place.self) (c.loop-place.met + 1) ls) (drop_of_length-le c.items-lines.result.now past))
+    let past : length c.lines_of-lines.result.now ≤ c.loop-place.place = rw c.len-place-end.ensures at c.loop-place-test.false in
+    let start = walk_through c.args.depth c.args.design.now (state_of c.args.self.now) c.args.model c.lines_of-lines.result.now c.if-depth-eq0.false c.lines_of-lines.ensures in
+    start ∙ (c.loop-place.invariant.walk ∙ ap (λ (ls : List Item). local_lines (local_within (c.args.depth - 1) c.args.design.now) c.args.design.now (state_of c.loop-place.self) (c.loop-place.met + 1) ls) (drop_of_length-le c.lines_of-lines.result.now past))
