@@ -12,8 +12,6 @@ mod sink;
 mod std_sink;
 mod sure_shelf;
 mod sure_sink;
-#[cfg(test)]
-mod tests;
 
 pub use file_shelf::FileShelf;
 pub use mem_shelf::MemShelf;

@@ -1,5 +1,5 @@
 //! Reads and writes in memory as tables, and each other kind once.
-use crate::{
+use job_io::{
     FileShelf, MemShelf, MemSink, Shelf, ShelfFault, Sink, SinkFailed, StdSink, SureShelf,
     SureSink, put_all,
 };
