@@ -10,7 +10,7 @@ ghost use Rattle.answer_composition.specs.private.Composing.{AreListsOf};
 use block_compose::BlockBases;
 use gf_basis::Basis;
 use gf_field::Field;
-use job_input::bases_of;
+use job_input::{PolyBasis, bases_of};
 use job_words::Stop;
 use net_signature::{Block, Signature};
 use std::alloc::Global;
@@ -24,7 +24,11 @@ pub(crate) fn all_bases<F: Field>(
     ensures gives { GivesBy (λ bases. map (map elements_of) bases) result (ListsOf (F.degree field.now) (F.product field.now) signature.now) ⊥ ⊥ }
     ensures are { IfOk result (λ bases. AreListsOf (F.degree field.now) (F.product field.now) signature.now.words signature.now.blocks bases) }
 {
-    match bases_of(alloc, field, signature.words()) {
+    let poly = PolyBasis {
+        field,
+        basis: Basis::poly(field),
+    };
+    match bases_of(alloc, &poly, signature.words()) {
         Ok(top) => with_blocks(alloc, field, top, signature.blocks()),
         Err(stop) => Err(stop),
     }
@@ -41,10 +45,14 @@ fn with_blocks<F: Field>(
     ensures gives { GivesBy (λ bases. map (map elements_of) bases) result (WithBlocksOf (F.degree field.now) (F.product field.now) (map elements_of top.items ∷ []) blocks.now) ⊥ ⊥ }
     ensures are { (words : List WordText) → length top.items ≡ length words → IfOk result (λ bases. AreListsOf (F.degree field.now) (F.product field.now) words blocks.now bases) }
 {
+    let poly = PolyBasis {
+        field,
+        basis: Basis::poly(field),
+    };
     let mut bases = BlockBases::new(alloc);
     bases.push(top)?;
     for block in blocks {
-        let list = match bases_of(alloc, field, block.words()) {
+        let list = match bases_of(alloc, &poly, block.words()) {
             Ok(list) => list,
             Err(stop) => return Err(stop),
         };

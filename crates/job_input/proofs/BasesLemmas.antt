@@ -6,10 +6,11 @@ use Rattle.lists.specs.Lists.{Has}
 use Rattle.lists.specs.laws.HasLaws.{Has_cases}
 use Rattle.outcome.specs.Outcome.{Outcome, ◌>>=◌, Exactly}
 use Rattle.net_words.specs.declared.word.WordText.{WordText}
+use Rattle.net_signature.specs.Body.{BlockValue}
 use Rattle.gf_basis.specs.BasisParts.{elements_of, IsBasisOver}
 use Rattle.gf_basis.specs.declared.bases.Basis.{Basis}
 use Rattle.job_words.specs.declared.signature_fault.SignatureFault.{SignatureFault}
-use Rattle.job_input.specs.SettingOf.{WordBasis, BasesOf}
+use Rattle.job_input.specs.SettingOf.{WordBasis, BasesOf, BlocksHaveBases}
 use Rattle.job_input.specs.Setting.{elements_of_each, AreBasesOver}
 
 module _ (k : ℕ) (product : ℕ → ℕ → ℕ) where
@@ -52,3 +53,14 @@ module _ (k : ℕ) (product : ℕ → ℕ → ℕ) where
       only : (x : Basis) → Has (basis ∷ []) x → IsBasisOver k product x
       only x (zero, got) = let same : basis ≡ x = cc in subst (IsBasisOver k product) same one
       only x (suc i, got) = absurd (cc)
+
+  blocks_ok : (block : BlockValue) (blocks : List BlockValue) (bases : List (List ℕ)) → BasesOf k product block.words (Ok bases) → (outcome : Result (Unit {0}) SignatureFault) → BlocksHaveBases k product blocks outcome → BlocksHaveBases k product (block ∷ blocks) outcome
+  blocks_ok block blocks bases one (Ok u) rest = (bases, one, rest)
+  blocks_ok block blocks bases one (Err fault) rest = inr (bases, one, rest)
+
+  -- the words of the next block have bases
+  pub blocks_step : (blocks : List BlockValue) (i : ℕ) (d block : BlockValue) (bases : List (List ℕ)) → i < length blocks → block ≡ get_or blocks i d → BasesOf k product block.words (Ok bases) → (outcome : Result (Unit {0}) SignatureFault) → BlocksHaveBases k product (drop (i + 1) blocks) outcome → BlocksHaveBases k product (drop i blocks) outcome
+  blocks_step blocks i d block bases less is one outcome rest =
+      let P : List BlockValue → Type 0 = λ xs. BlocksHaveBases k product xs outcome in
+      let Q : BlockValue → Type 0 = λ b. BasesOf k product b.words (Ok bases) in
+      subst P (sym (drop_more blocks i d less)) (blocks_ok (get_or blocks i d) (drop (i + 1) blocks) bases (subst Q is one) outcome rest)

@@ -5,6 +5,7 @@ pub mod SettingWordLemmas
 pub mod SettingSoundLemmas
 pub mod SettingDetermined
 pub mod BasesLemmas
+pub mod PolyBasisLemmas
 pub mod PlaceLemmas
 pub mod NetlistLemmas
 pub mod HierarchyLemmas

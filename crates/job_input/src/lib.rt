@@ -14,6 +14,7 @@ mod laws;
 mod modulus;
 mod named_setting;
 mod netlist;
+mod poly_basis;
 mod second;
 mod setting;
 mod signed;
@@ -32,6 +33,7 @@ pub use laws::{
 };
 pub use modulus::field_of_modulus;
 pub use named_setting::NamedSetting;
+pub use poly_basis::PolyBasis;
 pub use second::read_second;
 pub use setting::{Setting, bases_of, setting_over};
 pub use signed::{Signed, read_signed};

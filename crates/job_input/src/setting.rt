@@ -8,6 +8,7 @@ ghost use Rattle.job_input.specs.SettingOf.{BasisOf, WordBasis, BasesOf, BlocksH
 ghost use Rattle.job_input.specs.SignedIn.{SettingOver};
 ghost use Rattle.job_input.specs.Setting.{elements_of_each, setting_value, AreBasesOver, AreSaid, IsReady};
 
+use crate::poly_basis::PolyBasis;
 use crate::signed::refused;
 use gf_basis::{Basis, BasisFault};
 use gf_field::Field;
@@ -38,11 +39,15 @@ pub fn setting_over<F: Field>(
     ensures ready { IfOk result (λ setting. IsReady (F.degree field.now) (F.product field.now) setting) }
     ensures own { IfOk result (λ setting. setting.signature ≡ signature) }
 {
-    let bases = match bases_of(alloc, field, signature.words()) {
+    let poly = PolyBasis {
+        field,
+        basis: Basis::poly(field),
+    };
+    let bases = match bases_of(alloc, &poly, signature.words()) {
         Ok(bases) => bases,
         Err(stop) => return Err(stop),
     };
-    match judge_blocks(alloc, field, signature.blocks()) {
+    match judge_blocks(alloc, &poly, signature.blocks()) {
         Ok(()) => {}
         Err(stop) => return Err(stop),
     }
@@ -52,14 +57,18 @@ pub fn setting_over<F: Field>(
     }
 }
 
-/// The bases of words, line by line, or the first fault.
-pub fn bases_of<F: Field>(alloc: Global, field: &F, words: &[WordText]) -> Result<Vec<Basis>, Stop>
-    ensures gives { GivesBy (λ bases. elements_of_each bases.items) result (Within Signature (BasesOf (F.degree field.now) (F.product field.now) words.now)) ⊥ ⊥ }
-    ensures over { IfOk result (λ bases. AreBasesOver (F.degree field.now) (F.product field.now) bases.items) }
+/// The bases of words over the field whose polynomial basis this is, line by line, or the first fault.
+pub fn bases_of<F: Field>(
+    alloc: Global,
+    poly: &PolyBasis<'_, F>,
+    words: &[WordText],
+) -> Result<Vec<Basis>, Stop>
+    ensures gives { GivesBy (λ bases. elements_of_each bases.items) result (Within Signature (BasesOf (F.degree poly.now.field.now) (F.product poly.now.field.now) words.now)) ⊥ ⊥ }
+    ensures over { IfOk result (λ bases. AreBasesOver (F.degree poly.now.field.now) (F.product poly.now.field.now) bases.items) }
 {
     let mut bases = Vec::new(alloc);
     for word in words {
-        let basis = match word_basis(field, word) {
+        let basis = match word_basis(poly, word) {
             Ok(basis) => basis,
             Err(stop) => return Err(stop),
         };
@@ -69,11 +78,15 @@ pub fn bases_of<F: Field>(alloc: Global, field: &F, words: &[WordText]) -> Resul
 }
 
 // The bases of the words of blocks, which are judged and not kept.
-fn judge_blocks<F: Field>(alloc: Global, field: &F, blocks: &[Block]) -> Result<(), Stop>
-    ensures { GivesBy (λ u. tt) result (Within Signature (BlocksHaveBases (F.degree field.now) (F.product field.now) blocks.now)) ⊥ ⊥ }
+fn judge_blocks<F: Field>(
+    alloc: Global,
+    poly: &PolyBasis<'_, F>,
+    blocks: &[Block],
+) -> Result<(), Stop>
+    ensures { GivesBy (λ u. tt) result (Within Signature (BlocksHaveBases (F.degree poly.now.field.now) (F.product poly.now.field.now) blocks.now)) ⊥ ⊥ }
 {
     for block in blocks {
-        match bases_of(alloc, field, block.words()) {
+        match bases_of(alloc, poly, block.words()) {
             Ok(_bases) => {}
             Err(stop) => return Err(stop),
         }
@@ -104,30 +117,30 @@ fn is_within(k: u32, source: &Source) -> bool
 }
 
 // The basis of a word: first its number of bits counts.
-fn word_basis<F: Field>(field: &F, word: &WordText) -> Result<Basis, Stop>
-    ensures gives { GivesBy elements_of result (Within Signature (WordBasis (F.degree field.now) (F.product field.now) word.now)) ⊥ ⊥ }
-    ensures over { IfOk result (λ basis. IsBasisOver (F.degree field.now) (F.product field.now) basis) }
+fn word_basis<F: Field>(poly: &PolyBasis<'_, F>, word: &WordText) -> Result<Basis, Stop>
+    ensures gives { GivesBy elements_of result (Within Signature (WordBasis (F.degree poly.now.field.now) (F.product poly.now.field.now) word.now)) ⊥ ⊥ }
+    ensures over { IfOk result (λ basis. IsBasisOver (F.degree poly.now.field.now) (F.product poly.now.field.now) basis) }
 {
     let line = word.line;
-    if word.role != Role::Fed && word.nets.as_slice().len() != field.k() as usize {
+    if word.role != Role::Fed && word.nets.as_slice().len() != poly.field.k() as usize {
         return Err(refused(SignatureFault::Bits { line }));
     }
-    match basis_of(field, &word.basis) {
+    match basis_of(poly, &word.basis) {
         Ok(basis) => Ok(basis),
         Err(fault) => Err(refused(basis_fault(line, fault))),
     }
 }
 
 // The basis that a text names.
-fn basis_of<F: Field>(field: &F, text: &BasisText) -> Result<Basis, BasisFault>
-    ensures ok { IfOk result (λ basis. BasisOf (F.degree field.now) (F.product field.now) text.now (Ok (elements_of basis))) }
-    ensures fault { IfErr result (λ fault. BasisOf (F.degree field.now) (F.product field.now) text.now (Err fault)) }
-    ensures over { IfOk result (λ basis. IsBasisOver (F.degree field.now) (F.product field.now) basis) }
+fn basis_of<F: Field>(poly: &PolyBasis<'_, F>, text: &BasisText) -> Result<Basis, BasisFault>
+    ensures ok { IfOk result (λ basis. BasisOf (F.degree poly.now.field.now) (F.product poly.now.field.now) text.now (Ok (elements_of basis))) }
+    ensures fault { IfErr result (λ fault. BasisOf (F.degree poly.now.field.now) (F.product poly.now.field.now) text.now (Err fault)) }
+    ensures over { IfOk result (λ basis. IsBasisOver (F.degree poly.now.field.now) (F.product poly.now.field.now) basis) }
 {
     match text {
-        BasisText::Poly => Ok(Basis::poly(field)),
-        BasisText::Normal { gamma } => Basis::normal(field, *gamma),
-        BasisText::Elements { list } => Basis::list(field, list.as_slice()),
+        BasisText::Poly => Ok(poly.basis),
+        BasisText::Normal { gamma } => Basis::normal(poly.field, *gamma),
+        BasisText::Elements { list } => Basis::list(poly.field, list.as_slice()),
     }
 }
 

@@ -7,7 +7,7 @@ use block_compose::{BlockBases, compose};
 use gf_basis::Basis;
 use gf_field::Field;
 use gf_tower::AnyField;
-use job_input::{Setting, bases_of, read_hierarchy, read_signed, setting_over};
+use job_input::{PolyBasis, Setting, bases_of, read_hierarchy, read_signed, setting_over};
 use job_io::MemShelf;
 use net_signature::Signature;
 use net_words::WordText;
@@ -33,7 +33,11 @@ fn list<F: Field>(rt: &impl Abort, alloc: Global, field: &F, words: &[WordText])
     ensures long { length result.items ≡ length words.now }
     ensures over { AreBasesOver (F.degree field.now) (F.product field.now) result.items }
 {
-    match bases_of(alloc, field, words) {
+    let poly = PolyBasis {
+        field,
+        basis: Basis::poly(field),
+    };
+    match bases_of(alloc, &poly, words) {
         Ok(bases) => bases,
         Err(_) => panic!(rt; "no bases"),
     }

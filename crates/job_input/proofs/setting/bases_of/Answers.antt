@@ -11,8 +11,8 @@ use Rattle.job_input.proofs.setting.bases_of.Goals as goal
 
 pub returns-in-Err-clause-gives : goal.returns-in-Err-clause-gives
 returns-in-Err-clause-gives g c =
-    let k = g.F.Ring.degree c.args.field.now in
-    let product = g.F.Ring.product c.args.field.now in
+    let k = g.F.Ring.degree c.args.poly.now.field.now in
+    let product = g.F.Ring.product c.args.poly.now.field.now in
     let view : Vec Basis Global → List (List ℕ) = λ bases. elements_of_each bases.items in
     let word = c.word-item.result in
     gives_fault elements_of view c.in-Err.stop (Within Signature (WordBasis k product word)) (Within Signature (BasesOf k product c.args.words.now))
@@ -21,8 +21,8 @@ returns-in-Err-clause-gives g c =
 
 pub loop-word-preserved : goal.loop-word-preserved
 loop-word-preserved g c =
-    let k = g.F.Ring.degree c.args.field.now in
-    let product = g.F.Ring.product c.args.field.now in
+    let k = g.F.Ring.degree c.args.poly.now.field.now in
+    let product = g.F.Ring.product c.args.poly.now.field.now in
     let word = c.word-item.result in (
       over_push k product c.loop-word.bases.items c.push.new.self.items c.in-Ok.basis c.in_ok-push.ensures.items c.loop-word.invariant.0 c.in-Ok.ensures.over,
       λ outcome rest. c.loop-word.invariant.1 outcome
@@ -31,6 +31,6 @@ loop-word-preserved g c =
 
 pub returns-clause-gives : goal.returns-clause-gives
 returns-clause-gives g c =
-    let k = g.F.Ring.degree c.args.field.now in
-    let product = g.F.Ring.product c.args.field.now in
+    let k = g.F.Ring.degree c.args.poly.now.field.now in
+    let product = g.F.Ring.product c.args.poly.now.field.now in
     c.loop-word.invariant.1 _ (rest_end k product (elements_of_each c.loop-word.bases.items) c.args.words.now c.loop-word.word-index (search rules))
