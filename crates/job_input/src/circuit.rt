@@ -42,7 +42,7 @@ pub fn read_netlist<S: Shelf>(
         Ok(text) => text,
         Err(stop) => return Err(stop),
     };
-    netlist_of(alloc, &setting.signature, file, &text)
+    netlist_of(alloc, &setting.signature, file, text)
 }
 
 // The netlist of a text of at most 67,108,864 bytes.
@@ -50,11 +50,11 @@ fn netlist_of(
     alloc: Global,
     signature: &Signature,
     file: &str,
-    text: &[u8],
+    text: Vec<u8>,
 ) -> Result<BoundNetlist, Stop>
-    requires short { length text.now ≤ 67108864 }
+    requires short { length text.items ≤ 67108864 }
     requires words { (k : ℕ) × AreWords k signature.now.words × AreFeeds k (roles_of signature.now.words) signature.now.feeds }
-    ensures gives { GivesBy (λ netlist. netlist) result (Within (Netlist file.now) (BoundNetOf signature.now (by_ending file.now text.now))) ⊥ ⊥ }
+    ensures gives { GivesBy (λ netlist. netlist) result (Within (Netlist file.now) (BoundNetOf signature.now (by_ending file.now text.items))) ⊥ ⊥ }
     ensures bits { IfOk result (λ netlist. netlist.binding.k ≡ bits_of signature.now.words) }
 {
     let name = Name::new(alloc, file)?;

@@ -11,11 +11,11 @@ ghost use Rattle.job_input.specs.Setting.{IsReady, roles_of};
 ghost use Rattle.job_input.specs.private.NetlistReading.{FitsNetlist};
 
 use crate::files::read_file;
-use crate::netlist::{Refusal, bound_to, model_fault, text_fault};
+use crate::netlist::{Refusal, blif_design, bound_to, model_fault, text_fault};
 use crate::setting::Setting;
 use job_io::Shelf;
 use job_words::{Fault, Stop};
-use net_blif::{Design, read_blif};
+use net_blif::Design;
 use net_core::Name;
 use net_flat::flatten;
 use net_signature::Signature;
@@ -39,7 +39,7 @@ pub fn read_hierarchy<S: Shelf>(
         Ok(text) => text,
         Err(stop) => return Err(stop),
     };
-    hierarchy_of(alloc, &setting.signature, file, &text)
+    hierarchy_of(alloc, &setting.signature, file, text)
 }
 
 // The models of a text of at most 67,108,864 bytes.
@@ -47,11 +47,11 @@ fn hierarchy_of(
     alloc: Global,
     signature: &Signature,
     file: &str,
-    text: &[u8],
+    text: Vec<u8>,
 ) -> Result<Design, Stop>
-    requires short { length text.now ≤ 67108864 }
+    requires short { length text.items ≤ 67108864 }
     requires words { (k : ℕ) × AreWords k signature.now.words × AreFeeds k (roles_of signature.now.words) signature.now.feeds }
-    ensures gives { GivesBy (λ design. design) result (Within (Netlist file.now) (HierarchyOf signature.now text.now)) ⊥ ⊥ }
+    ensures gives { GivesBy (λ design. design) result (Within (Netlist file.now) (HierarchyOf signature.now text.items)) ⊥ ⊥ }
     ensures top { IfOk result (λ design. TopBinds signature.now design (Ok tt)) }
 {
     let name = Name::new(alloc, file)?;
@@ -63,13 +63,13 @@ fn hierarchy_of(
 }
 
 // The models of a text, or why it is refused, where no file is named yet.
-fn design_of(alloc: Global, signature: &Signature, text: &[u8]) -> Result<Design, Refusal>
-    requires short { length text.now ≤ 67108864 }
+fn design_of(alloc: Global, signature: &Signature, text: Vec<u8>) -> Result<Design, Refusal>
+    requires short { length text.items ≤ 67108864 }
     requires words { (k : ℕ) × AreWords k signature.now.words × AreFeeds k (roles_of signature.now.words) signature.now.feeds }
-    ensures fits { FitsNetlist result (HierarchyOf signature.now text.now) }
+    ensures fits { FitsNetlist result (HierarchyOf signature.now text.items) }
     ensures top { IfOk result (λ design. TopBinds signature.now design (Ok tt)) }
 {
-    let design = match read_blif(alloc, text) {
+    let design = match blif_design(alloc, text) {
         Ok(design) => design,
         Err(fault) => return Err(text_fault(fault)),
     };

@@ -1,6 +1,7 @@
 //! A netlist: its text, its net, and the binding of the signature's words.
-ghost use Rattle.std.specs.Prelude.{◌≡◌, ◌≤◌, ◌<◌, ℕ, length, IfOk, IsOk};
+ghost use Rattle.std.specs.Prelude.{◌≡◌, ◌≤◌, ◌<◌, ◌⊎◌, ℕ, length, Ok, Err, IfOk, IfErr, IsOk};
 ghost use Rattle.net_core.specs.NetList.{nets, text_of};
+ghost use Rattle.net_blif.specs.Models.{BlifDesign};
 ghost use Rattle.net_words.specs.Bind.{bits_of};
 ghost use Rattle.net_words.specs.Binding.{AreWords};
 ghost use Rattle.net_words.specs.Feeds.{AreFeeds};
@@ -12,9 +13,9 @@ ghost use Rattle.job_input.specs.private.NetlistReading.{FitsNetlist, IsNamed, I
 use crate::bound::BoundNetlist;
 use job_words::{BindingFault, NetlistFault};
 use net_aiger::{AigerFault, read_aiger};
-use net_blif::{BlifFault, read_blif};
+use net_blif::{BlifFault, Design, read_blif};
 use net_core::{Name, Net, NetFault};
-use net_flat::{FlatFault, flatten};
+use net_flat::{FlatFault, flatten_design};
 use net_signature::Signature;
 use net_verilog::VerilogFault;
 use net_words::{BindFault, FeedText, WordText, bind};
@@ -28,16 +29,17 @@ pub(crate) enum Refusal {
     OutOfMemory,
 }
 
-/// The net of a netlist's text, by the ending of its file's name, with the words of a signature bound to it.
+/// The net of a netlist's text, by the ending of its file's name, with the words of a signature bound to it. The text is let go
+/// as soon as it is read.
 pub(crate) fn bound_net(
     alloc: Global,
     signature: &Signature,
     file: &str,
-    text: &[u8],
+    text: Vec<u8>,
 ) -> Result<BoundNetlist, Refusal>
-    requires short { length text.now ≤ 67108864 }
+    requires short { length text.items ≤ 67108864 }
     requires words { (k : ℕ) × AreWords k signature.now.words × AreFeeds k (roles_of signature.now.words) signature.now.feeds }
-    ensures fits { FitsNetlist result (BoundNetOf signature.now (by_ending file.now text.now)) }
+    ensures fits { FitsNetlist result (BoundNetOf signature.now (by_ending file.now text.items)) }
     ensures bits { IfOk result (λ netlist. netlist.binding.k ≡ bits_of signature.now.words) }
 {
     match net_of(alloc, file, text) {
@@ -78,9 +80,9 @@ fn is_verilog(file: &str) -> bool
 }
 
 // The net of a text, which the reader of its form gives.
-fn net_of(alloc: Global, file: &str, text: &[u8]) -> Result<Net, Refusal>
-    requires { length text.now ≤ 67108864 }
-    ensures fits { FitsNetlist result (NetOf (by_ending file.now text.now)) }
+fn net_of(alloc: Global, file: &str, text: Vec<u8>) -> Result<Net, Refusal>
+    requires { length text.items ≤ 67108864 }
+    ensures fits { FitsNetlist result (NetOf (by_ending file.now text.items)) }
 {
     if is_aiger(file) {
         aiger_net(alloc, text)
@@ -92,11 +94,11 @@ fn net_of(alloc: Global, file: &str, text: &[u8]) -> Result<Net, Refusal>
 }
 
 // The net of a text in ASCII AIGER.
-fn aiger_net(alloc: Global, text: &[u8]) -> Result<Net, Refusal>
-    requires { length text.now ≤ 67108864 }
-    ensures fits { FitsNetlist result (NetOf (Aiger text.now)) }
+fn aiger_net(alloc: Global, text: Vec<u8>) -> Result<Net, Refusal>
+    requires { length text.items ≤ 67108864 }
+    ensures fits { FitsNetlist result (NetOf (Aiger text.items)) }
 {
-    match read_aiger(alloc, text) {
+    match read_aiger(alloc, &text) {
         Ok(net) => Ok(net),
         Err(fault) => Err(aiger_fault(fault)),
     }
@@ -119,11 +121,11 @@ fn aiger_fault(fault: AigerFault) -> Refusal
 }
 
 // The net of a text in structural Verilog.
-fn verilog_net(alloc: Global, text: &[u8]) -> Result<Net, Refusal>
-    requires { length text.now ≤ 67108864 }
-    ensures fits { FitsNetlist result (NetOf (Verilog text.now)) }
+fn verilog_net(alloc: Global, text: Vec<u8>) -> Result<Net, Refusal>
+    requires { length text.items ≤ 67108864 }
+    ensures fits { FitsNetlist result (NetOf (Verilog text.items)) }
 {
-    match read_verilog(alloc, text) {
+    match read_verilog(alloc, &text) {
         Ok(net) => Ok(net),
         Err(fault) => Err(verilog_fault(fault)),
     }
@@ -149,16 +151,25 @@ fn verilog_fault(fault: VerilogFault) -> Refusal
     }
 }
 
-// The net of a text in BLIF.
-fn blif_net(alloc: Global, text: &[u8]) -> Result<Net, Refusal>
-    requires { length text.now ≤ 67108864 }
-    ensures fits { FitsNetlist result (NetOf (Blif text.now)) }
+/// The models of a text in BLIF, which is let go when they are read.
+pub(crate) fn blif_design(alloc: Global, text: Vec<u8>) -> Result<Design, BlifFault>
+    requires { length text.items ≤ 67108864 }
+    ensures read { IfOk result (λ design. BlifDesign text.items (Ok design)) }
+    ensures fault { IfErr result (λ e. (e ≡ BlifFault.OutOfMemory) ⊎ BlifDesign text.items (Err e)) }
 {
-    let design = match read_blif(alloc, text) {
+    read_blif(alloc, &text)
+}
+
+// The net of a text in BLIF, whose models are let go when their lines were walked.
+fn blif_net(alloc: Global, text: Vec<u8>) -> Result<Net, Refusal>
+    requires { length text.items ≤ 67108864 }
+    ensures fits { FitsNetlist result (NetOf (Blif text.items)) }
+{
+    let design = match blif_design(alloc, text) {
         Ok(design) => design,
         Err(fault) => return Err(text_fault(fault)),
     };
-    match flatten(alloc, &design, 0) {
+    match flatten_design(alloc, design, 0) {
         Ok(net) => Ok(net),
         Err(fault) => Err(model_fault(fault)),
     }

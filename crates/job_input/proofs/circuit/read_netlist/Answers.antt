@@ -1,9 +1,7 @@
-use Rattle.std.proofs.Common.{ℕ, List, subst}
 use Rattle.outcome.specs.Outcome.{Within}
 use Rattle.job_io.specs.Counts.{Rose}
 use Rattle.net_words.specs.Binding.{BoundNet}
 use Rattle.job_words.specs.declared.fault.Fault.TheVariants.{File, Netlist}
-use Rattle.job_words.specs.Stop.{GivesBy}
 use Rattle.job_words.proofs.StepLemmas.{after}
 use Rattle.job_input.specs.File.{Read}
 use Rattle.job_input.specs.NetlistOf.{BoundNetOf, by_ending}
@@ -16,9 +14,8 @@ returns-clause-gives g c =
     let file = c.args.file.now in
     let missed = Rose (g.S.Shelf.misses c.args.shelf.now) (g.S.Shelf.misses c.read_file.new.shelf) in
     let failed = Rose (g.S.Shelf.faults c.args.shelf.now) (g.S.Shelf.faults c.read_file.new.shelf) in
-    let P : List ℕ → Type 0 = λ text. GivesBy {X = BoundNet} (λ circuit. circuit) c.netlist_of.result (Within (Netlist file) (BoundNetOf signature (by_ending file text))) ⊥ ⊥ in
     after {X = BoundNet} (λ circuit. circuit) c.netlist_of.result (Within File (Read (g.S.Shelf.held c.args.shelf.now) file)) (λ text. Within (Netlist file) (BoundNetOf signature (by_ending file text))) c.in-Ok.text.items
-    missed failed ⊥ ⊥ c.in-Ok.ensures.gives (λ m. absurd m) (λ f. absurd f) (subst P c.deref.ensures.value c.netlist_of.ensures.gives)
+    missed failed ⊥ ⊥ c.in-Ok.ensures.gives (λ m. absurd m) (λ f. absurd f) c.netlist_of.ensures.gives
 
 pub returns-clause-taken : goal.returns-clause-taken
-returns-clause-taken g c = taken_for c.args.setting.now c.args.file.now c.deref.result.now c.netlist_of.result c.netlist_of.ensures.gives c.netlist_of.ensures.bits
+returns-clause-taken g c = taken_for c.args.setting.now c.args.file.now c.in-Ok.text.items c.netlist_of.result c.netlist_of.ensures.gives c.netlist_of.ensures.bits

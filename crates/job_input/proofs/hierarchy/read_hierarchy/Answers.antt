@@ -1,9 +1,8 @@
-use Rattle.std.proofs.Common.{ℕ, List, subst}
+use Rattle.std.proofs.Common.{List}
 use Rattle.outcome.specs.Outcome.{Within}
 use Rattle.job_io.specs.Counts.{Rose}
 use Rattle.net_blif.specs.Design.{ModelValue}
 use Rattle.job_words.specs.declared.fault.Fault.TheVariants.{File, Netlist}
-use Rattle.job_words.specs.Stop.{GivesBy}
 use Rattle.job_words.proofs.StepLemmas.{after}
 use Rattle.job_input.specs.File.{Read}
 use Rattle.job_input.specs.HierarchyIn.{HierarchyOf}
@@ -15,6 +14,5 @@ returns-clause-gives g c =
     let file = c.args.file.now in
     let missed = Rose (g.S.Shelf.misses c.args.shelf.now) (g.S.Shelf.misses c.read_file.new.shelf) in
     let failed = Rose (g.S.Shelf.faults c.args.shelf.now) (g.S.Shelf.faults c.read_file.new.shelf) in
-    let P : List ℕ → Type 0 = λ text. GivesBy {X = List ModelValue} (λ design. design) c.hierarchy_of.result (Within (Netlist file) (HierarchyOf signature text)) ⊥ ⊥ in
     after {X = List ModelValue} (λ design. design) c.hierarchy_of.result (Within File (Read (g.S.Shelf.held c.args.shelf.now) file)) (λ text. Within (Netlist file) (HierarchyOf signature text)) c.in-Ok.text.items
-    missed failed ⊥ ⊥ c.in-Ok.ensures.gives (λ m. absurd m) (λ f. absurd f) (subst P c.deref.ensures.value c.hierarchy_of.ensures.gives)
+    missed failed ⊥ ⊥ c.in-Ok.ensures.gives (λ m. absurd m) (λ f. absurd f) c.hierarchy_of.ensures.gives
