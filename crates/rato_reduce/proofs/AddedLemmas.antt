@@ -10,7 +10,7 @@ use Rattle.poly_mixed.specs.Polynomial.{Terms}
 use Rattle.poly_mixed.specs.Cofactor.{cofactors, lacking, without_bit}
 use Rattle.poly_mixed.proofs.SumLemmas.{at_additive}
 use Rattle.rato_reduce.specs.private.CutTerms.{of_bits}
-use Rattle.rato_reduce.specs.private.Buckets.{at_monomial, coefficient_in, ArePlaced, AreTaken, HaveSameSum, IsLine, IsPlaced}
+use Rattle.rato_reduce.specs.private.Buckets.{at_monomial, coefficient_in, ArePlaced, HaveSameSum, IsLine, IsPlaced}
 
 -- the terms at two indices are of the same product
 pub record HaveSameProduct (terms : Terms) (index i : ℕ) : Type 0 where
@@ -149,24 +149,11 @@ pub either_way : {A E P Q S : Type 0} (r : Result A E) → (P → S) → (Q → 
 either_way (Ok a) f g p q = f p
 either_way (Err e) f g p q = g q
 
-pub taken_out : (rank : ℕ) (lines mid part old : Terms) → HaveSameSum lines mid → ((places : List ℕ) (level : ℕ) → AllByRecursion (IsLine places level) lines → AllByRecursion (IsLine places level) mid)
-    → old ≡ [] → part ≡ old ++ cofactors rank mid → lacking rank mid ≡ [] → AreTaken rank lines part
-taken_out rank lines mid part old sums each none part_is others = record {
-  taken = mid;
-  sums = sums;
-  each = each;
-  part_is = part_is ∙ ap (λ us. us ++ cofactors rank mid) none;
-  no_others = others;
-}
-
 -- ---- one term without a bit
 
 -- the bits but one
 abbrev pub bits_but : ℕ → List ℕ → List ℕ
 bits_but rank bits = filter (λ r. not (nat_eq r rank)) bits
-
-pub bits_but_first : (rank r : ℕ) (bits : List ℕ) → bits_but rank (r ∷ bits) ≡ bits_but rank (r ∷ []) ++ bits_but rank bits
-bits_but_first rank r bits = elim (nat_eq r rank) as (λ b. cond (not b) (r ∷ bits_but rank bits) (bits_but rank bits) ≡ cond (not b) (r ∷ []) [] ++ bits_but rank bits) [ true ↦ refl | false ↦ refl ]
 
 all_stay : (rank : ℕ) (bits : List ℕ) → list_any (λ r. nat_eq r rank) bits ≡ false → length (bits_but rank bits) ≡ length bits
 all_stay rank [] none = refl

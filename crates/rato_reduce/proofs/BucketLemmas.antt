@@ -19,7 +19,7 @@ use Rattle.rato_reduce.specs.private.CutKey.{place_at, first_from}
 use Rattle.rato_reduce.specs.private.CutTerms.{IsBitTerm}
 use Rattle.rato_reduce.specs.private.Buckets.{at_monomial, coefficient_in, level_at, joined, AreLevelled, AreOut, AreTaken, AreUpTo, HasTermAt, HaveSameSum, IsCounted, IsLine, IsMergedAt, StayLevelled}
 use Rattle.rato_reduce.proofs.CutLemmas.{coefficient_sum, sum_map_is, nothing_map}
-use Rattle.rato_reduce.proofs.CutBitLemmas.{least_first, cofactor_terms}
+use Rattle.rato_reduce.proofs.CutBitLemmas.{least_first}
 use Rattle.rato_reduce.proofs.CutPartLemmas.{put_back, part_is}
 use Rattle.rato_reduce.proofs.ProductLemmas.{sum_append}
 
@@ -307,29 +307,25 @@ step_lists old new goal lists rest ts next so_far step =
 
 -- ---- a list was taken from the end
 
-pub no_list_out : (rank : ℕ) (old new : List Terms) (part : Terms) → new ≡ old → part ≡ [] → AreOut rank old new part
-no_list_out rank old new part same none = record {
-  taken = [];
-  sums = λ q. ap (coefficient_in q) (append-nil (joined new)) ∙ ap (λ (ls : List Terms). coefficient_in q (joined ls)) same;
-  each = λ places are. tt;
-  part_is = none;
-  no_others = refl;
-}
+pub no_list_out : (old new : List Terms) (taken : Terms) → new ≡ old → taken ≡ [] → AreOut old new taken
+no_list_out old new taken same none =
+    let P : Terms → Type 0 = AreOut old new in
+    subst P (sym none) (record {
+      sums = λ q. ap (coefficient_in q) (append-nil (joined new)) ∙ ap (λ (ls : List Terms). coefficient_in q (joined ls)) same;
+      each = λ places are. tt;
+    })
 
-pub one_list_out : (rank : ℕ) (old new : List Terms) (lines part : Terms) → old ≡ new ++ lines ∷ [] → AreTaken rank lines part → AreOut rank old new part
-one_list_out rank old new lines part are made = record {
-  taken = made.taken;
+pub one_list_out : (old new : List Terms) (lines taken : Terms) → old ≡ new ++ lines ∷ [] → AreTaken lines taken → AreOut old new taken
+one_list_out old new lines taken are made = record {
   sums = λ q.
-      sum_append (at_monomial q) (joined new) made.taken
+      sum_append (at_monomial q) (joined new) taken
       ∙ ap (bit_xor (coefficient_in q (joined new))) (made.sums q)
       ∙ sym (sum_append (at_monomial q) (joined new) lines)
       ∙ sym (ap (λ (ls : List Terms). coefficient_in q (joined ls)) are ∙ ap (coefficient_in q) (joined_end new lines));
   each = λ places levelled.
       let P : List Terms → Type 0 = AreLevelled places 0 in
       let ends = levelled_end places 0 new lines (subst P are levelled) in
-      lines_terms places (0 + length new) made.taken (made.each places (0 + length new) ends.1);
-  part_is = made.part_is;
-  no_others = made.no_others;
+      lines_terms places (0 + length new) taken (made.each places (0 + length new) ends.1);
 }
 
 pub rest_levelled : (old new : List Terms) (lines : Terms) → old ≡ new ++ lines ∷ [] → StayLevelled old new
@@ -339,32 +335,26 @@ pub rest_length : (old new : List Terms) (lines : Terms) → old ≡ new ++ line
 rest_length old new lines are = ap (λ (ls : List Terms). length (joined ls)) are ∙ ap length (joined_end new lines) ∙ length-append (joined new) lines
 
 -- the lists that are left end before the level of the rank
-module _ (places : List ℕ) (rank : ℕ) (old new : List Terms) (part : Terms) (levelled : AreLevelled places 0 old) (after : AreLevelled places 0 new) (long : length new ≤ level_at places rank) (made : AreOut rank old new part) where
-  each_whole : AllByRecursion IsBitTerm (made.taken ++ joined new)
-  each_whole = all_append IsBitTerm made.taken (joined new) (made.each places levelled) (levelled_terms places 0 new after)
+module _ (places : List ℕ) (rank : ℕ) (old new : List Terms) (taken : Terms) (levelled : AreLevelled places 0 old) (after : AreLevelled places 0 new) (long : length new ≤ level_at places rank) (made : AreOut old new taken) where
+  each_whole : AllByRecursion IsBitTerm (taken ++ joined new)
+  each_whole = all_append IsBitTerm taken (joined new) (made.each places levelled) (levelled_terms places 0 new after)
 
   lacks : LacksBit rank (joined new)
   lacks = levelled_lack places 0 rank new after (omega (arith, long))
 
-  same_whole : plus text_cmp [] (made.taken ++ joined new) ≡ plus text_cmp [] (joined old)
-  same_whole = same_polynomial (joined old) (made.taken ++ joined new) (levelled_terms places 0 old levelled) each_whole
+  same_whole : plus text_cmp [] (taken ++ joined new) ≡ plus text_cmp [] (joined old)
+  same_whole = same_polynomial (joined old) (taken ++ joined new) (levelled_terms places 0 old levelled) each_whole
       (λ q.
-      sum_append (at_monomial q) made.taken (joined new)
-      ∙ xor_comm (coefficient_in q made.taken) (coefficient_in q (joined new))
-      ∙ sym (sum_append (at_monomial q) (joined new) made.taken)
+      sum_append (at_monomial q) taken (joined new)
+      ∙ xor_comm (coefficient_in q taken) (coefficient_in q (joined new))
+      ∙ sym (sum_append (at_monomial q) (joined new) taken)
       ∙ made.sums q)
 
-  pub out_left : plus text_cmp [] (joined new) ≡ lacking rank (plus text_cmp [] (joined old))
-  out_left =
-      ap (plus text_cmp (plus text_cmp [] (joined new))) (sym made.no_others)
-      ∙ put_back rank (made.taken ++ joined new) made.taken (joined new) refl each_whole lacks
+  pub out_left : lacking rank taken ≡ [] → plus text_cmp [] (joined new) ≡ lacking rank (plus text_cmp [] (joined old))
+  out_left no_others =
+      ap (plus text_cmp (plus text_cmp [] (joined new))) (sym no_others)
+      ∙ put_back rank (taken ++ joined new) taken (joined new) refl each_whole lacks
       ∙ ap (lacking rank) same_whole
 
-  pub out_part : plus text_cmp [] part ≡ cofactors rank (plus text_cmp [] (joined old))
-  out_part =
-      ap (plus text_cmp []) made.part_is
-      ∙ part_is rank (made.taken ++ joined new) made.taken (joined new) refl each_whole lacks
-      ∙ ap (cofactors rank) same_whole
-
-  pub out_each : AllByRecursion IsBitTerm part
-  out_each = let P : Terms → Type 0 = AllByRecursion IsBitTerm in subst P (sym made.part_is) (cofactor_terms rank made.taken (made.each places levelled))
+  pub out_part : plus text_cmp [] (cofactors rank taken) ≡ cofactors rank (plus text_cmp [] (joined old))
+  out_part = part_is rank (taken ++ joined new) taken (joined new) refl each_whole lacks ∙ ap (cofactors rank) same_whole

@@ -14,7 +14,7 @@ use Rattle.poly_mixed.proofs.MonomialLemmas.{text_cmp-same}
 use Rattle.poly_mixed.proofs.SumLemmas.{at, at_additive, found_is_sum, xor_sum-plus}
 use Rattle.poly_mixed.proofs.ValueLemmas.{same_map}
 use Rattle.rato_reduce.specs.private.CutKey.{CutKey}
-use Rattle.rato_reduce.specs.private.CutTerms.{of_bits, IsBitTerm, term_of, IsTaken, products, all_products}
+use Rattle.rato_reduce.specs.private.CutTerms.{of_bits, ArePutIn, IsBitTerm, term_of, IsTaken, products, all_products}
 use Rattle.poly_mixed.specs.Product.{union, with_rank}
 use Rattle.poly_mixed.specs.Table.{table_bit}
 use Rattle.rato_reduce.specs.Monomials.{monomials}
@@ -25,12 +25,12 @@ use Rattle.stage_model.proofs.SharedLemmas.{plus_append}
 
 -- ---- the end of the entries was taken, its terms without the bit were put back
 
-lacking_append : (bit : ℕ) (ts us : Terms) → lacking bit (ts ++ us) ≡ lacking bit ts ++ lacking bit us
+pub lacking_append : (bit : ℕ) (ts us : Terms) → lacking bit (ts ++ us) ≡ lacking bit ts ++ lacking bit us
 lacking_append bit [] us = refl
 lacking_append bit (t ∷ ts) us = ap (λ rest. cond (not (has_bit bit t.0)) (t ∷ rest) rest) (lacking_append bit ts us)
     ∙ elim (has_bit bit t.0) as (λ b. cond (not b) (t ∷ (lacking bit ts ++ lacking bit us)) (lacking bit ts ++ lacking bit us) ≡ cond (not b) (t ∷ lacking bit ts) (lacking bit ts) ++ lacking bit us) [ true ↦ refl | false ↦ refl ]
 
-cofactors_append : (bit : ℕ) (ts us : Terms) → cofactors bit (ts ++ us) ≡ cofactors bit ts ++ cofactors bit us
+pub cofactors_append : (bit : ℕ) (ts us : Terms) → cofactors bit (ts ++ us) ≡ cofactors bit ts ++ cofactors bit us
 cofactors_append bit [] us = refl
 cofactors_append bit (t ∷ ts) us = ap (λ rest. cond (has_bit bit t.0) ((without_bit bit t.0, t.1) ∷ rest) rest) (cofactors_append bit ts us)
     ∙ elim (has_bit bit t.0) as (λ b. cond b ((without_bit bit t.0, t.1) ∷ (cofactors bit ts ++ cofactors bit us)) (cofactors bit ts ++ cofactors bit us) ≡ cond b ((without_bit bit t.0, t.1) ∷ cofactors bit ts) (cofactors bit ts) ++ cofactors bit us) [ true ↦ refl | false ↦ refl ]
@@ -167,27 +167,32 @@ one_set b n t = elim b as (λ v. products t (cond v (n ∷ []) []) ≡ cond v ((
 two_sets : (a b : Bool) (m n : List ℕ) (t : Monomial × ℕ) → products t (cond a (m ∷ []) [] ++ cond b (n ∷ []) []) ≡ chosen_product a m t ++ chosen_product b n t
 two_sets a b m n t = products_append t (cond a (m ∷ []) []) (cond b (n ∷ []) []) ∙ (λ i. one_set a m t i ++ one_set b n t i)
 
--- the products of a term and the form of a table of two bits
-pub pair_products : (form first second : ℕ) (t : Monomial × ℕ)
-    → products t (monomials form [] (first ∷ second ∷ []) 0 1)
-    ≡ (chosen_product (table_bit form 0) [] t ++ chosen_product (table_bit form 2) (second ∷ []) t) ++ (chosen_product (table_bit form 1) (first ∷ []) t ++ chosen_product (table_bit form 3) (with_rank (first ∷ []) second) t)
-pair_products form first second t =
-    products_append t (monomials form [] (second ∷ []) 0 2) (monomials form (first ∷ []) (second ∷ []) 1 2)
-    ∙ (λ i. two_sets (table_bit form 0) (table_bit form 2) [] (second ∷ []) t i ++ two_sets (table_bit form 1) (table_bit form 3) (first ∷ []) (with_rank (first ∷ []) second) t i)
+-- the products of a term and of at most four sets
+four_products : (a b c d : Bool) (k l m n : List ℕ) (t : Monomial × ℕ)
+    → products t ((cond a (k ∷ []) [] ++ cond b (l ∷ []) []) ++ (cond c (m ∷ []) [] ++ cond d (n ∷ []) [])) ≡ (chosen_product a k t ++ chosen_product b l t) ++ (chosen_product c m t ++ chosen_product d n t)
+four_products a b c d k l m n t =
+    products_append t (cond a (k ∷ []) [] ++ cond b (l ∷ []) []) (cond c (m ∷ []) [] ++ cond d (n ∷ []) [])
+    ∙ (λ i. two_sets a b k l t i ++ two_sets c d m n t i)
 
+pub four_added : (old one two three new : Terms) (a b c d : Bool) (k l m n : List ℕ) (t : Monomial × ℕ) → one ≡ plus text_cmp old (chosen_product a k t) → two ≡ plus text_cmp one (chosen_product b l t)
+    → three ≡ plus text_cmp two (chosen_product c m t) → new ≡ plus text_cmp three (chosen_product d n t)
+    → new ≡ plus text_cmp old (products t ((cond a (k ∷ []) [] ++ cond b (l ∷ []) []) ++ (cond c (m ∷ []) [] ++ cond d (n ∷ []) [])))
+four_added old one two three new a b c d k l m n t one_is two_is three_is new_is =
+    let v = chosen_product a k t in
+    let w = chosen_product b l t in
+    let x = chosen_product c m t in
+    let y = chosen_product d n t in
+    new_is
+    ∙ ap (λ us. plus text_cmp us y) (three_is ∙ ap (λ us. plus text_cmp us x) (two_is ∙ ap (λ us. plus text_cmp us w) one_is ∙ sym (plus_append old v w)))
+    ∙ sym (plus_append (plus text_cmp old (v ++ w)) x y)
+    ∙ sym (plus_append old (v ++ w) (x ++ y))
+    ∙ ap (plus text_cmp old) (sym (four_products a b c d k l m n t))
+
+-- the products of a term and the form of a table of two bits
 pub pair_added : (old one high low new : Terms) (form first second : ℕ) (t : Monomial × ℕ) → one ≡ plus text_cmp old (chosen_product (table_bit form 0) [] t) → high ≡ plus text_cmp one (chosen_product (table_bit form 2) (second ∷ []) t)
     → low ≡ plus text_cmp high (chosen_product (table_bit form 1) (first ∷ []) t) → new ≡ plus text_cmp low (chosen_product (table_bit form 3) (with_rank (first ∷ []) second) t)
     → new ≡ plus text_cmp old (products t (monomials form [] (first ∷ second ∷ []) 0 1))
-pair_added old one high low new form first second t one_is high_is low_is new_is =
-    let a = chosen_product (table_bit form 0) [] t in
-    let b = chosen_product (table_bit form 2) (second ∷ []) t in
-    let c = chosen_product (table_bit form 1) (first ∷ []) t in
-    let d = chosen_product (table_bit form 3) (with_rank (first ∷ []) second) t in
-    new_is
-    ∙ ap (λ us. plus text_cmp us d) (low_is ∙ ap (λ us. plus text_cmp us c) (high_is ∙ ap (λ us. plus text_cmp us b) one_is ∙ sym (plus_append old a b)))
-    ∙ sym (plus_append (plus text_cmp old (a ++ b)) c d)
-    ∙ sym (plus_append old (a ++ b) (c ++ d))
-    ∙ ap (plus text_cmp old) (sym (pair_products form first second t))
+pair_added old one high low new form first second t = four_added old one high low new (table_bit form 0) (table_bit form 2) (table_bit form 1) (table_bit form 3) [] (second ∷ []) (first ∷ []) (with_rank (first ∷ []) second) t
 
 pub step_products : (old new goal : Terms) (t : Monomial × ℕ) (rest ts : Terms) (sets : List (List ℕ)) → rest ≡ t ∷ ts → plus text_cmp old (all_products rest sets) ≡ goal → new ≡ plus text_cmp old (products t sets)
     → plus text_cmp new (all_products ts sets) ≡ goal
@@ -196,3 +201,30 @@ step_products old new goal t rest ts sets next so_far step =
     ∙ sym (plus_append old (products t sets) (all_products ts sets))
     ∙ ap (λ r. plus text_cmp old (all_products r sets)) (sym next)
     ∙ so_far
+
+-- ---- the terms with a bit, without it
+
+all_products_append : (ts us : Terms) (sets : List (List ℕ)) → all_products (ts ++ us) sets ≡ all_products ts sets ++ all_products us sets
+all_products_append [] us sets = refl
+all_products_append (t ∷ ts) us sets = ap (λ vs. products t sets ++ vs) (all_products_append ts us sets) ∙ sym (append_assoc (products t sets) (all_products ts sets) (all_products us sets))
+
+-- one term more was put in
+pub step_put : (old new goal : Terms) (rank : ℕ) (t : Monomial × ℕ) (rest ts : Terms) (sets : List (List ℕ)) → rest ≡ t ∷ ts → plus text_cmp old (all_products (cofactors rank rest) sets) ≡ goal → ArePutIn rank (t ∷ []) sets old new
+    → plus text_cmp new (all_products (cofactors rank ts) sets) ≡ goal
+step_put old new goal rank t rest ts sets next so_far put =
+    let one = cofactors rank (t ∷ []) in
+    ap (λ us. plus text_cmp us (all_products (cofactors rank ts) sets)) put.sum
+    ∙ sym (plus_append old (all_products one sets) (all_products (cofactors rank ts) sets))
+    ∙ ap (plus text_cmp old) (sym (all_products_append one (cofactors rank ts) sets) ∙ ap (λ us. all_products us sets) (sym (cofactors_append rank (t ∷ []) ts) ∙ ap (cofactors rank) (sym next)))
+    ∙ so_far
+
+pub step_others : (old new : Terms) (rank : ℕ) (t : Monomial × ℕ) (rest ts goal : Terms) (sets : List (List ℕ)) → rest ≡ t ∷ ts → lacking rank rest ≡ goal → ArePutIn rank (t ∷ []) sets old new → lacking rank ts ≡ goal
+step_others old new rank t rest ts goal sets next so_far put =
+    sym (ap (lacking rank) next ∙ lacking_append rank (t ∷ []) ts ∙ ap (λ us. us ++ lacking rank ts) put.no_others) ∙ so_far
+
+-- a term was put in
+pub one_put_in : (old new : Terms) (rank : ℕ) (t u : Monomial × ℕ) (sets : List (List ℕ)) → u ∷ [] ≡ cofactors rank (t ∷ []) → lacking rank (t ∷ []) ≡ [] → new ≡ plus text_cmp old (products u sets) → ArePutIn rank (t ∷ []) sets old new
+one_put_in old new rank t u sets without has sum = record {
+  sum = sum ∙ ap (plus text_cmp old) (sym (append-nil (products u sets)) ∙ ap (λ us. all_products us sets) without);
+  no_others = has;
+}

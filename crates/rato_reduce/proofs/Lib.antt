@@ -21,3 +21,5 @@ mod BucketLemmas
 mod LevelLemmas
 mod PairLemmas
 mod SilentLemmas
+mod UnitedLemmas
+mod TermLemmas

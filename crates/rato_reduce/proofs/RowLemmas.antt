@@ -1,14 +1,14 @@
 -- Rows: where their bits stand, and how equal terms of them are added up.
-use Rattle.std.proofs.Common.{◌≡◌, ℕ, zero, suc, ◌-◌, ◌≤◌, ◌==◌, Bool, true, false, cond, not, List, [], ◌∷◌, ◌++◌, length, take, drop, drop_of_length-le, Some, inl, inr, bit_xor, refl, sym, ◌∙◌, ap, subst, arith}
+use Rattle.std.proofs.Common.{◌≡◌, ℕ, zero, suc, ◌+◌, ◌-◌, ◌<◌, ◌≤◌, ◌==◌, Bool, true, false, cond, not, List, [], ◌∷◌, ◌++◌, length, get_or, take, drop, drop_of_length-le, Some, inl, inr, bit_xor, refl, sym, ◌∙◌, ap, subst, arith}
 use Rattle.std.specs.Prelude.{slice_get, slice_set}
 use Rattle.std.specs.List.{AllByRecursion, filter}
 use Rattle.std.proofs.lemmas.Bool.{cases_order}
-use Rattle.std.proofs.lemmas.List.{take-append-le, drop-append-le, take_all, length-drop, length-append, map-append}
+use Rattle.std.proofs.lemmas.List.{take-append-le, drop-append-le, drop_more, take_all, length-drop, length-append, map-append}
 use Rattle.lists.specs.laws.ListLaws.{all_append}
 use Rattle.lists.specs.laws.OptionLaws.{same_some}
 use Rattle.rato_reduce.specs.declared.row.Row.{Row}
 use Rattle.rato_reduce.specs.private.CutTerms.{of_bits}
-use Rattle.rato_reduce.specs.private.Rows.{bits_at, line_at, lines_of, AddsAt, AreAddedUp, AreMerged, HaveSameBits, IsInside}
+use Rattle.rato_reduce.specs.private.Rows.{bits_at, line_at, lines_of, AddsAt, AreAddedUp, AreMerged, HaveSameBits, IsInside, IsLonger}
 use Rattle.rato_reduce.proofs.AddedLemmas.{merged_each, merged_sums, moved, stays, AddsToTerm, AreSummed, HaveSameProduct}
 
 -- ---- where bits stand
@@ -26,6 +26,13 @@ bits_more ranks more row is =
 pub lines_more : (ranks more : List ℕ) (rows : List Row) → AllByRecursion (IsInside ranks) rows → lines_of (ranks ++ more) rows ≡ lines_of ranks rows
 lines_more ranks more [] all = refl
 lines_more ranks more (r ∷ rows) all = λ i. (of_bits (bits_more ranks more r all.0 i), r.coefficient) ∷ lines_more ranks more rows all.1 i
+
+-- the rows of a list with more behind it
+pub inside_longer : (old new : List ℕ) (rows : List Row) → IsLonger old new → AllByRecursion (IsInside old) rows → AllByRecursion (IsInside new) rows
+inside_longer old new rows longer all = let P : List ℕ → Type 0 = λ ranks. AllByRecursion (IsInside ranks) rows in subst P (sym longer.is) (inside_more old longer.more rows all)
+
+pub lines_longer : (old new : List ℕ) (rows : List Row) → IsLonger old new → AllByRecursion (IsInside old) rows → lines_of new rows ≡ lines_of old rows
+lines_longer old new rows longer all = ap (λ (ranks : List ℕ). lines_of ranks rows) longer.is ∙ lines_more old longer.more rows all
 
 new_bits : (ranks more : List ℕ) (row : Row) → row.start ≡ length ranks → row.stop ≡ length (ranks ++ more) → bits_at (ranks ++ more) row ≡ more
 new_bits ranks more row start stop =
@@ -46,6 +53,13 @@ pub inside_pushed : (ranks more : List ℕ) (rows : List Row) (row : Row) → Al
 inside_pushed ranks more rows row all start stop =
     all_append (IsInside (ranks ++ more)) rows (row ∷ []) (inside_more ranks more rows all)
     (record { ordered = omega (arith, start, stop, length-append ranks more); inside = omega (arith, stop) }, tt)
+
+-- the first of the rows that are left
+abbrev pub no_row : Row
+no_row = record { start = 0; stop = 0; hash = 0; coefficient = 0 }
+
+pub next_line : (ranks : List ℕ) (rows : List Row) (i : ℕ) → i < length rows → lines_of ranks (drop i rows) ≡ line_at ranks (get_or rows i no_row) ∷ lines_of ranks (drop (i + 1) rows)
+next_line ranks rows i less = ap (lines_of ranks) (drop_more rows i no_row less)
 
 -- bits that end behind the list end with it
 ends_clipped : (ranks : List ℕ) (row : Row) (stop : ℕ) → (row.stop ≤ length ranks → stop ≡ row.stop) → (length ranks ≤ row.stop → stop ≡ length ranks) → take (stop - row.start) (drop row.start ranks) ≡ bits_at ranks row

@@ -2,4 +2,5 @@ pub mod CutKey
 pub mod CutTerms
 pub mod Buckets
 pub mod EntryList
+pub mod Pairs
 pub mod Rows

@@ -1,15 +1,13 @@
 //! Terms in no order.
-ghost use Rattle.std.specs.Prelude.{◌≡◌, ◌++◌, ◌∷◌, ℕ, List, [], length, not, nat_eq, IfOk, OnOk, OnErr};
-ghost use Rattle.std.specs.List.{AllByRecursion, filter};
-ghost use Rattle.poly_mixed.specs.Cofactor.{cofactors, lacking};
-ghost use Rattle.rato_reduce.specs.declared.row.Row.{Row};
-ghost use Rattle.rato_reduce.specs.private.CutTerms.{of_bits};
-ghost use Rattle.rato_reduce.specs.private.Buckets.{AreTaken, HaveSameSum, IsLine};
-ghost use Rattle.rato_reduce.specs.private.Rows.{lines_of, IsInside};
+ghost use Rattle.std.specs.Prelude.{◌≡◌, ◌++◌, ◌∷◌, ℕ, List, [], length, IfOk, OnOk, OnErr};
+ghost use Rattle.std.specs.List.{AllByRecursion};
+ghost use Rattle.rato_reduce.specs.private.Buckets.{HaveSameSum, IsLine};
+ghost use Rattle.rato_reduce.specs.private.Rows.{lines_of, product_of, IsInside};
 
 use crate::merge::merge_rows;
-use crate::row::{Row, bits_of, hash_of};
-use crate::stop::Stop;
+use crate::row::{Row, bits_of};
+use crate::term::Term;
+use crate::united::add_union;
 use std::alloc::{AllocError, Global};
 use std::marker::Model;
 use std::mem::swap;
@@ -73,33 +71,12 @@ impl Bucket {
         self.merged = 0;
     }
 
-    /// Adds one more term, equal to another one or not.
-    pub fn push(&mut self, bits: &[u32], hash: u64, coefficient: u64) -> Result<(), AllocError>
-        ensures pushed { OnOk result (self.new ≡ self.old ++ (of_bits bits.now, coefficient) ∷ []) }
+    /// Adds the product of a term and of a set of bits, equal to another one or not.
+    pub fn push(&mut self, term: &Term<'_>, set: &[u32]) -> Result<(), AllocError>
+        ensures pushed { OnOk result (self.new ≡ self.old ++ product_of term.now set.now ∷ []) }
         ensures kept { OnErr result (self.new ≡ self.old) }
     {
-        push_row(&mut self.ranks, &mut self.rows, bits, hash, coefficient)
-    }
-
-    // Adds one more term of all of these bits but one, and gives how many bits it has.
-    fn push_without(
-        &mut self,
-        bits: &[u32],
-        rank: u32,
-        hash: u64,
-        coefficient: u64,
-    ) -> Result<usize, AllocError>
-        ensures pushed { OnOk result (self.new ≡ self.old ++ (of_bits (filter (λ r. not (nat_eq r rank)) bits.now), coefficient) ∷ []) }
-        ensures few { IfOk result (λ n. n ≡ length (filter (λ r. not (nat_eq r rank)) bits.now)) }
-    {
-        push_rest(
-            &mut self.ranks,
-            &mut self.rows,
-            bits,
-            rank,
-            hash,
-            coefficient,
-        )
+        push_row(&mut self.ranks, &mut self.rows, term, set)
     }
 
     /// Adds up equal terms that a few looks find, which are most of them.
@@ -129,15 +106,20 @@ impl Bucket {
         Ok(())
     }
 
-    /// Takes the memory of a spare one in exchange for its own, if no terms stand here. Those of the spare one are let go.
+    /// Takes the memory of a spare one in exchange for its own, if no terms stand here and that one has memory. Those of the spare
+    /// one are let go.
     pub fn take_memory(&mut self, spare: &mut Bucket)
         ensures { self.new ≡ self.old }
     {
-        if self.len() == 0 {
-            self.clear();
-            spare.clear();
-            swap(self, spare);
+        if self.len() > 0 {
+            return;
         }
+        if spare.rows.capacity() == 0 {
+            return;
+        }
+        self.clear();
+        spare.clear();
+        swap(self, spare);
     }
 
     /// Whether its memory is small enough to be kept for others.
@@ -148,15 +130,6 @@ impl Bucket {
     // Whether nothing came since equal terms were added up.
     fn is_merged(&self) -> bool {
         self.rows.len() < 2 || self.rows.len() == self.merged
-    }
-
-    /// Puts the terms without the bit into the part, which is empty, after equal ones were added up; each has to have it.
-    pub fn take_out(&mut self, alloc: Global, rank: u32, part: &mut Bucket) -> Result<(), Stop>
-        requires { part.old ≡ [] }
-        ensures { OnOk result (AreTaken rank self.old part.new) }
-    {
-        self.merge(alloc)?;
-        take_each(self.ranks.as_slice(), self.rows.as_slice(), rank, part)
     }
 }
 
@@ -175,106 +148,37 @@ fn copied(alloc: Global, ranks: &[u32], rows: &[Row]) -> Result<Bucket, AllocErr
 {
     let mut bucket = Bucket::new(alloc);
     for row in rows {
-        bucket.push(bits_of(ranks, row), row.hash, row.coefficient)?;
+        let term = Term {
+            front: &[],
+            back: bits_of(ranks, row),
+            hash: row.hash,
+            coefficient: row.coefficient,
+        };
+        bucket.push(&term, &[])?;
     }
     Ok(bucket)
 }
 
-// Adds one more row of these bits.
+// Adds one more row, of the product of a term and of a set of bits.
 fn push_row(
     ranks: &mut Vec<u32>,
     rows: &mut Vec<Row>,
-    bits: &[u32],
-    hash: u64,
-    coefficient: u64,
+    term: &Term<'_>,
+    set: &[u32],
 ) -> Result<(), AllocError>
     requires { AllByRecursion (IsInside ranks.old.items) rows.old.items }
     ensures inside { AllByRecursion (IsInside ranks.new.items) rows.new.items }
-    ensures pushed { OnOk result (lines_of ranks.new.items rows.new.items ≡ lines_of ranks.old.items rows.old.items ++ (of_bits bits.now, coefficient) ∷ []) }
+    ensures pushed { OnOk result (lines_of ranks.new.items rows.new.items ≡ lines_of ranks.old.items rows.old.items ++ product_of term.now set.now ∷ []) }
     ensures kept { OnErr result (lines_of ranks.new.items rows.new.items ≡ lines_of ranks.old.items rows.old.items) }
 {
     let start = ranks.len();
-    ranks.extend_from_slice(bits)?;
+    let added = add_union(ranks, term, set)?;
     let stop = ranks.len();
     rows.push(Row {
         start,
         stop,
-        hash,
-        coefficient,
+        hash: term.hash ^ added,
+        coefficient: term.coefficient,
     })?;
-    Ok(())
-}
-
-// Adds a rank to the end of a list of ranks, unless it is this one. The bits of rows stay where they are.
-fn add_unless(ranks: &mut Vec<u32>, r: u32, rank: u32) -> Result<(), AllocError>
-    ensures added { OnOk result (ranks.new.items ≡ ranks.old.items ++ filter (λ s. not (nat_eq s rank)) (r ∷ [])) }
-    ensures inside { (rows : List Row) → AllByRecursion (IsInside ranks.old.items) rows → AllByRecursion (IsInside ranks.new.items) rows }
-{
-    if r == rank {
-        return Ok(());
-    }
-    ranks.push(r)?;
-    Ok(())
-}
-
-// Adds all of these bits but one to the end of a list of ranks. The bits of rows stay where they are.
-fn add_rest(ranks: &mut Vec<u32>, bits: &[u32], rank: u32) -> Result<(), AllocError>
-    ensures added { OnOk result (ranks.new.items ≡ ranks.old.items ++ filter (λ r. not (nat_eq r rank)) bits.now) }
-    ensures inside { (rows : List Row) → AllByRecursion (IsInside ranks.old.items) rows → AllByRecursion (IsInside ranks.new.items) rows }
-{
-    for r in bits {
-        add_unless(ranks, *r, rank)?;
-    }
-    Ok(())
-}
-
-// Adds one more row of all of these bits but one, and gives how many bits it has.
-fn push_rest(
-    ranks: &mut Vec<u32>,
-    rows: &mut Vec<Row>,
-    bits: &[u32],
-    rank: u32,
-    hash: u64,
-    coefficient: u64,
-) -> Result<usize, AllocError>
-    requires { AllByRecursion (IsInside ranks.old.items) rows.old.items }
-    ensures inside { AllByRecursion (IsInside ranks.new.items) rows.new.items }
-    ensures pushed { OnOk result (lines_of ranks.new.items rows.new.items ≡ lines_of ranks.old.items rows.old.items ++ (of_bits (filter (λ r. not (nat_eq r rank)) bits.now), coefficient) ∷ []) }
-    ensures few { IfOk result (λ n. n ≡ length (filter (λ r. not (nat_eq r rank)) bits.now)) }
-{
-    let start = ranks.len();
-    add_rest(ranks, bits, rank)?;
-    let stop = ranks.len();
-    rows.push(Row {
-        start,
-        stop,
-        hash,
-        coefficient,
-    })?;
-    Ok(stop.saturating_sub(start))
-}
-
-// Puts a term into the part, without the bit, which it has to have.
-fn take_one(ranks: &[u32], row: &Row, rank: u32, part: &mut Bucket) -> Result<(), Stop>
-    ensures part { OnOk result (part.new ≡ part.old ++ cofactors rank (lines_of ranks.now (row.now ∷ []))) }
-    ensures others { OnOk result (lacking rank (lines_of ranks.now (row.now ∷ [])) ≡ []) }
-{
-    let bits = bits_of(ranks, row);
-    let all = bits.len();
-    let left = part.push_without(bits, rank, row.hash ^ hash_of(rank), row.coefficient)?;
-    if left == all {
-        return Err(Stop::GivesUp);
-    }
-    Ok(())
-}
-
-// Puts terms into the part, without the bit, which each has to have.
-fn take_each(ranks: &[u32], rows: &[Row], rank: u32, part: &mut Bucket) -> Result<(), Stop>
-    ensures part { OnOk result (part.new ≡ part.old ++ cofactors rank (lines_of ranks.now rows.now)) }
-    ensures others { OnOk result (lacking rank (lines_of ranks.now rows.now) ≡ []) }
-{
-    for row in rows {
-        take_one(ranks, row, rank, part)?;
-    }
     Ok(())
 }

@@ -8,15 +8,17 @@ ghost use Rattle.poly_mixed.specs.Monomial.{text_cmp};
 ghost use Rattle.poly_mixed.specs.Sum.{plus, plus_term};
 ghost use Rattle.rato_reduce.specs.private.Buckets.{joined, level_at, AreOut, AreUpTo, HasTermAt, AreTaken, IsCounted, IsMerged, IsMergedAt, StayLevelled};
 ghost use Rattle.rato_reduce.specs.private.CutTerms.{of_bits, IsBitTerm};
-ghost use Rattle.rato_reduce.specs.private.Rows.{lines_of};
+ghost use Rattle.rato_reduce.specs.private.Rows.{lines_of, product_of, term_bits};
 
 use crate::bucket::Bucket;
 use crate::key::{first_place, place_of};
 use crate::row::{Row, bits_of};
 use crate::stop::Stop;
+use crate::term::Term;
 use poly_mixed::{Mono, Poly};
 use std::alloc::{AllocError, Global};
 use std::marker::Model;
+use std::mem::swap;
 
 // So many times all lists may be merged.
 const MERGES: u32 = 64;
@@ -75,7 +77,13 @@ impl Buckets {
         ensures { OnOk result (self.new.terms ≡ plus_term text_cmp self.old.terms (of_bits bits.now, c)) }
     {
         let level = self.level_for(bits);
-        self.add_at(level, bits, hash, c)
+        let term = Term {
+            front: &[],
+            back: bits,
+            hash,
+            coefficient: c,
+        };
+        self.add_at(level, &term, &[])
     }
 
     /// A level up to which these bits are.
@@ -85,37 +93,26 @@ impl Buckets {
         level(self.places.as_slice(), bits)
     }
 
-    /// Adds a term of rising bits up to a level. After running out of memory it is not used again.
-    pub fn add_at(
-        &mut self,
-        level: usize,
-        bits: &[u32],
-        hash: u64,
-        c: u64,
-    ) -> Result<(), AllocError>
-        requires up_to { AreUpTo self.old.places level bits.now }
-        requires rising { IsStrictlySortedBy nat_cmp bits.now }
-        requires some { c ≢ 0 }
-        ensures sum { OnOk result (self.new.terms ≡ plus_term text_cmp self.old.terms (of_bits bits.now, c)) }
+    /// Adds the product of a term of rising bits and of a set of bits, all up to a level. After running out of memory it is not
+    /// used again.
+    pub fn add_at(&mut self, level: usize, term: &Term<'_>, set: &[u32]) -> Result<(), AllocError>
+        requires up_to { AreUpTo self.old.places level (term_bits term.now) }
+        requires set { AreUpTo self.old.places level set.now }
+        requires rising { IsStrictlySortedBy nat_cmp (term_bits term.now) }
+        requires some { term.now.coefficient ≢ 0 }
+        ensures sum { OnOk result (self.new.terms ≡ plus_term text_cmp self.old.terms (product_of term.now set.now)) }
         ensures places { self.new.places ≡ self.old.places }
     {
         raise(self.alloc, &mut self.list, level)?;
         self.count = more(self.count, 1);
-        push_at(
-            self.list.as_mut_slice(),
-            &mut self.spare,
-            level,
-            bits,
-            hash,
-            c,
-        )
+        push_at(self.list.as_mut_slice(), &mut self.spare, level, term, set)
     }
 
-    /// Takes out the terms with the bit, and puts them, without it, in place of what `part` held. Equal ones may stand there
-    /// apart. After a stop neither is used again.
-    pub fn take_with(&mut self, rank: u32, part: &mut Bucket) -> Result<(), Stop>
-        ensures left { OnOk result (self.new.terms ≡ lacking rank self.old.terms) }
-        ensures part { OnOk result (plus text_cmp [] part.new ≡ cofactors rank self.old.terms) }
+    /// Takes out the list of the terms with the bit, in place of what `part` held. Equal ones may stand there apart; whether all
+    /// have the bit is not seen. After a stop neither is used again.
+    pub fn take_list(&mut self, rank: u32, part: &mut Bucket) -> Result<(), Stop>
+        ensures left { OnOk result (lacking rank part.new ≡ [] → self.new.terms ≡ lacking rank self.old.terms) }
+        ensures part { OnOk result (lacking rank part.new ≡ [] → plus text_cmp [] (cofactors rank part.new) ≡ cofactors rank self.old.terms) }
         ensures each { OnOk result (AllByRecursion IsBitTerm part.new) }
     {
         part.clear();
@@ -126,7 +123,6 @@ impl Buckets {
             &mut self.spare,
             &mut self.count,
             level,
-            rank,
             part,
         )
     }
@@ -204,18 +200,17 @@ fn pop_from(list: &mut Vec<Bucket>, level: usize) -> Option<Bucket>
     list.pop()
 }
 
-// Takes the list of this level, if there is one: its terms with the bit are put into the part, without it.
+// Takes the list of this level, if there is one, in place of the part.
 fn take_last(
     alloc: Global,
     list: &mut Vec<Bucket>,
     spare: &mut Bucket,
     count: &mut u64,
     level: usize,
-    rank: u32,
     part: &mut Bucket,
 ) -> Result<(), Stop>
     requires { part.old ≡ [] }
-    ensures taken { OnOk result (AreOut rank list.old.items list.new.items part.new) }
+    ensures taken { OnOk result (AreOut list.old.items list.new.items part.new) }
     ensures rest { OnOk result (length list.new.items ≤ level) }
     ensures levelled { StayLevelled list.old.items list.new.items }
     ensures counted { IsCounted count.old (length (joined list.old.items)) → IsCounted count.new (length (joined list.new.items)) }
@@ -227,23 +222,22 @@ fn take_last(
             if list.len() > level {
                 return Err(Stop::GivesUp);
             }
-            take_all(alloc, bucket, spare, rank, part)
+            take_all(alloc, bucket, spare, part)
         }
     }
 }
 
-// Puts the terms of a list without the bit into the part; each has to have it. The list's memory is kept, if it is small.
+// Puts a list in place of the part, after equal terms were added up. The part's memory is kept, if it is small.
 fn take_all(
     alloc: Global,
     mut bucket: Bucket,
     spare: &mut Bucket,
-    rank: u32,
     part: &mut Bucket,
 ) -> Result<(), Stop>
-    requires { part.old ≡ [] }
-    ensures { OnOk result (AreTaken rank bucket part.new) }
+    ensures { OnOk result (AreTaken bucket part.new) }
 {
-    bucket.take_out(alloc, rank, part)?;
+    bucket.merge(alloc)?;
+    swap(part, &mut bucket);
     keep(spare, bucket);
     Ok(())
 }
@@ -300,35 +294,33 @@ fn raise(alloc: Global, list: &mut Vec<Bucket>, level: usize) -> Result<(), Allo
     Ok(())
 }
 
-// Adds a term to the list at an index.
+// Adds the product of a term and of a set of bits to the list at an index.
 fn push_at(
     list: &mut [Bucket],
     spare: &mut Bucket,
     i: usize,
-    bits: &[u32],
-    hash: u64,
-    c: u64,
+    term: &Term<'_>,
+    set: &[u32],
 ) -> Result<(), AllocError>
     requires { i < length list.old }
-    ensures pushed { OnOk result (HasTermAt list.old list.new i (of_bits bits.now, c)) }
+    ensures pushed { OnOk result (HasTermAt list.old list.new i (product_of term.now set.now)) }
     ensures kept { OnErr result (list.new ≡ list.old) }
 {
-    push_to(&mut list[i], spare, bits, hash, c)
+    push_to(&mut list[i], spare, term, set)
 }
 
-// Adds a term to a list, which may take the memory of a spare one.
+// Adds the product of a term and of a set of bits to a list, which may take the memory of a spare one.
 fn push_to(
     bucket: &mut Bucket,
     spare: &mut Bucket,
-    bits: &[u32],
-    hash: u64,
-    c: u64,
+    term: &Term<'_>,
+    set: &[u32],
 ) -> Result<(), AllocError>
-    ensures pushed { OnOk result (bucket.new ≡ bucket.old ++ (of_bits bits.now, c) ∷ []) }
+    ensures pushed { OnOk result (bucket.new ≡ bucket.old ++ product_of term.now set.now ∷ []) }
     ensures kept { OnErr result (bucket.new ≡ bucket.old) }
 {
     bucket.take_memory(spare);
-    bucket.push(bits, hash, c)
+    bucket.push(term, set)
 }
 
 // Adds up equal terms of a list, and gives the count after that.

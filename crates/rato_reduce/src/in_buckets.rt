@@ -5,9 +5,7 @@ ghost use Rattle.gf_basis.specs.BasisParts.{elements_of, IsBasisOver};
 ghost use Rattle.lists.specs.Lists.{Has};
 ghost use Rattle.net_core.specs.Order.{IsElimination};
 ghost use Rattle.net_core.specs.Sound.{IsSound};
-ghost use Rattle.poly_mixed.specs.Monomial.{text_cmp};
 ghost use Rattle.poly_mixed.specs.Polynomial.{IsReduced};
-ghost use Rattle.poly_mixed.specs.Sum.{plus};
 ghost use Rattle.stage_model.specs.Cut.{BoundCut};
 ghost use Rattle.stage_model.specs.CircuitListing.{bound_cuts};
 ghost use Rattle.stage_model.specs.Listing.{AreAllWithin};
@@ -16,14 +14,15 @@ ghost use Rattle.rato_reduce.specs.BoundVariables.{bound_variables, ranks_of_inp
 ghost use Rattle.rato_reduce.specs.GatePoint.{HasGatePutIn};
 ghost use Rattle.rato_reduce.specs.Monomials.{monomials};
 ghost use Rattle.rato_reduce.specs.Recorded.{AreAllRecorded};
-ghost use Rattle.rato_reduce.specs.private.CutTerms.{all_products, IsBitTerm};
+ghost use Rattle.rato_reduce.specs.private.CutTerms.{ArePutIn, IsBitTerm};
 
 use crate::bucket::Bucket;
 use crate::buckets::Buckets;
 use crate::eliminate::input_ranks;
 use crate::first_cut::{first_cut, places, rank};
 use crate::monomials::monomials as monomials_of;
-use crate::products::{add_all_pairs, add_all_products};
+use crate::pair::pair_at;
+use crate::products::{add_all_products, add_rows};
 use crate::stop::Stop;
 use circuit_model::output_nets;
 use gf_basis::Basis;
@@ -36,38 +35,35 @@ use std::alloc::{AllocError, Global};
 // An output word of fewer bits is not worth the lists.
 const FEW: usize = 2;
 
-// Adds the products of the terms and of the form of a table at the inputs of a gate. A form of two bits makes no list of sets.
+// Adds the products of the terms without a bit, which each has to have, and of the form of a table at the inputs of a gate. A
+// form of at most two bits makes no list of sets.
 fn add_form(
     alloc: Global,
     circuit: &Combinational,
     gate: &Gate,
     form: u64,
+    rank: u32,
     part: &Bucket,
     cut: &mut Buckets,
-    room: &mut Vec<u32>,
-) -> Result<(), AllocError>
+) -> Result<(), Stop>
     requires sound { IsSound circuit.now.net }
     requires gate { Has circuit.now.net.gates gate.now }
     requires part { AllByRecursion IsBitTerm part.now }
-    ensures { OnOk result (cut.new.terms ≡ plus text_cmp cut.old.terms (all_products part.now (monomials form [] (ranks_of_inputs circuit.now gate.now) 0 1))) }
+    ensures { OnOk result (ArePutIn rank part.now (monomials form [] (ranks_of_inputs circuit.now gate.now) 0 1) cut.old.terms cut.new.terms) }
 {
     if part.len() == 0 {
         return Ok(());
     }
     let (ranks, rows) = part.parts();
-    let inputs = gate.inputs();
-    if inputs.len() == 2 {
-        let first = rank(circuit, inputs[0]);
-        let second = rank(circuit, inputs[1]);
-        return add_all_pairs(cut, ranks, rows, form, first, second, room);
+    if let Some(pair) = pair_at(cut, circuit, gate, form) {
+        return add_rows(cut, ranks, rows, rank, &pair);
     }
     let list = input_ranks(alloc, circuit, gate)?;
     let sets = monomials_of(alloc, form, &list)?;
-    add_all_products(cut, ranks, rows, &sets, room)
+    add_all_products(cut, ranks, rows, rank, &sets)
 }
 
-// Puts a gate's table in place of its output. `part` is room for the terms with the net, and `room` for the bits of one,
-// whatever they hold.
+// Puts a gate's table in place of its output. `part` is room for the terms with the net, whatever it holds.
 fn put_gate<F: Field>(
     alloc: Global,
     _field: &F,
@@ -75,7 +71,6 @@ fn put_gate<F: Field>(
     gate: &Gate,
     cut: &mut Buckets,
     part: &mut Bucket,
-    room: &mut Vec<u32>,
 ) -> Result<(), Stop>
     requires sound { IsSound circuit.now.net }
     requires gate { Has circuit.now.net.gates gate.now }
@@ -84,9 +79,9 @@ fn put_gate<F: Field>(
     ensures values { OnOk result (HasGatePutIn (F.degree _field.now) (F.product _field.now) (bound_variables circuit.now) gate.now cut.old.terms cut.new.terms) }
 {
     let rank = rank(circuit, gate.out());
-    cut.take_with(rank, part)?;
+    cut.take_list(rank, part)?;
     let form = exclusive_form(gate.table());
-    add_form(alloc, circuit, gate, form, part, cut, room)?;
+    add_form(alloc, circuit, gate, form, rank, part, cut)?;
     Ok(())
 }
 
@@ -128,10 +123,9 @@ fn reduce<F: Field>(
     let mut cut = first.into_buckets()?;
     check_size(&mut cut, bound)?;
     let mut part = Bucket::new(alloc);
-    let mut room = Vec::new(alloc);
     for t in 0..order.len() {
         let gate = &net.gates()[order[t] as usize];
-        put_gate(alloc, field, circuit, gate, &mut cut, &mut part, &mut room)?;
+        put_gate(alloc, field, circuit, gate, &mut cut, &mut part)?;
         check_size(&mut cut, bound)?;
     }
     let poly = cut.to_poly()?;

@@ -14,11 +14,13 @@ mod key;
 mod line;
 mod merge;
 mod monomials;
+mod pair;
 mod products;
 mod ranks;
 mod reduce;
-mod room;
 mod row;
 mod stop;
+mod term;
+mod united;
 
 pub use reduce::reduce_bits;

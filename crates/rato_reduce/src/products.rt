@@ -1,193 +1,192 @@
-//! Products of terms and of the polynomial of a gate, added to terms in lists.
-ghost use Rattle.std.specs.Prelude.{◌≡◌, ◌≤◌, ◌∷◌, [], length, IsTrue, OnOk, if◌then◌else◌};
+//! Products of terms and of what is put in for a bit, added to terms in lists.
+ghost use Rattle.std.specs.Prelude.{◌≡◌, ◌∷◌, [], OnOk};
 ghost use Rattle.std.specs.List.{AllByRecursion};
 ghost use Rattle.poly_mixed.specs.Monomial.{text_cmp};
-ghost use Rattle.poly_mixed.specs.Product.{union, with_rank};
 ghost use Rattle.poly_mixed.specs.Sum.{plus, plus_term};
-ghost use Rattle.rato_reduce.specs.Monomials.{monomials};
 ghost use Rattle.rato_reduce.specs.private.Buckets.{AreUpTo};
-ghost use Rattle.rato_reduce.specs.private.CutTerms.{all_products, of_bits, products, IsBitTerm};
-ghost use Rattle.rato_reduce.specs.private.Rows.{bits_at, line_at, lines_of};
+ghost use Rattle.rato_reduce.specs.private.CutTerms.{products, ArePutIn, IsBitTerm};
+ghost use Rattle.rato_reduce.specs.private.Pairs.{both_bits, pair_sets, HasLevels};
+ghost use Rattle.rato_reduce.specs.private.Rows.{line_at, lines_of, product_if, product_of, term_bits};
 
 use crate::buckets::Buckets;
-use crate::monomials::has_place;
+use crate::pair::{Pair, greater_of};
 use crate::ranks::Ranks;
-use crate::room::unite;
-use crate::row::{Row, bits_of, hash_of};
+use crate::row::Row;
+use crate::stop::Stop;
+use crate::term::{Term, term_without};
 use std::alloc::AllocError;
 
-// The greater of two levels.
-fn greater_of(one: usize, other: usize) -> usize
-    ensures one { one ≤ result }
-    ensures other { other ≤ result }
+// A level up to which the bits of a term are.
+fn term_level(cut: &Buckets, term: &Term<'_>) -> usize
+    ensures { AreUpTo cut.now.places result (term_bits term.now) }
 {
-    if one < other { other } else { one }
+    let front = cut.level_for(term.front);
+    let back = cut.level_for(term.back);
+    greater_of(front, back)
 }
 
-// A level up to which the bits of a row are.
-fn row_level(cut: &Buckets, ranks: &[u32], row: &Row) -> usize
-    ensures { AreUpTo cut.now.places result (bits_at ranks.now row.now) }
-{
-    cut.level_for(bits_of(ranks, row))
-}
-
-// Whether the product of these bits and of those of a set is of the one bit of the set.
-fn is_one(bits: &[u32], set: &[u32]) -> bool
-    ensures none { IsTrue result → length bits.now ≡ 0 }
-    ensures one { IsTrue result → length set.now ≡ 1 }
-{
-    bits.is_empty() && set.len() == 1
-}
-
-// Adds the product of a term of bits up to a level and of other bits: it is up to the greater level.
+// Adds the product of a term of bits up to a level and of other bits up to another one: it is up to the greater level.
 fn add_product(
     cut: &mut Buckets,
-    ranks: &[u32],
-    row: &Row,
+    term: &Term<'_>,
     level: usize,
     set: &[u32],
-    room: &mut Vec<u32>,
+    set_level: usize,
 ) -> Result<(), AllocError>
-    requires term { IsBitTerm (line_at ranks.now row.now) }
-    requires up_to { AreUpTo cut.old.places level (bits_at ranks.now row.now) }
-    ensures sum { OnOk result (cut.new.terms ≡ plus_term text_cmp cut.old.terms (of_bits (union (bits_at ranks.now row.now) set.now), row.now.coefficient)) }
+    requires term { IsBitTerm (product_of term.now []) }
+    requires up_to { AreUpTo cut.old.places level (term_bits term.now) }
+    requires set { AreUpTo cut.old.places set_level set.now }
+    ensures sum { OnOk result (cut.new.terms ≡ plus_term text_cmp cut.old.terms (product_of term.now set.now)) }
     ensures places { cut.new.places ≡ cut.old.places }
 {
-    let bits = bits_of(ranks, row);
-    if set.is_empty() {
-        return cut.add_at(level, bits, row.hash, row.coefficient);
-    }
-    if is_one(bits, set) {
-        let other = cut.level_for(set);
-        return cut.add_at(other, set, row.hash ^ hash_of(set[0]), row.coefficient);
-    }
-    let more = unite(room, bits, set)?;
-    let greater = greater_of(level, cut.level_for(set));
-    cut.add_at(greater, room.as_slice(), row.hash ^ more, row.coefficient)
+    let greater = greater_of(level, set_level);
+    cut.add_at(greater, term, set)
 }
 
-// Adds the products of a term and of each of these sets of bits.
-fn add_products(
+// Adds the product of a term of bits up to a level and of other bits up to another one, if it is to be added.
+fn add_chosen(
     cut: &mut Buckets,
-    ranks: &[u32],
-    row: &Row,
-    sets: &[Ranks],
-    room: &mut Vec<u32>,
+    term: &Term<'_>,
+    level: usize,
+    set: &[u32],
+    set_level: usize,
+    adds: bool,
 ) -> Result<(), AllocError>
-    requires { IsBitTerm (line_at ranks.now row.now) }
-    ensures { OnOk result (cut.new.terms ≡ plus text_cmp cut.old.terms (products (line_at ranks.now row.now) sets.now)) }
+    requires term { IsBitTerm (product_of term.now []) }
+    requires up_to { AreUpTo cut.old.places level (term_bits term.now) }
+    requires set { AreUpTo cut.old.places set_level set.now }
+    ensures sum { OnOk result (cut.new.terms ≡ plus text_cmp cut.old.terms (product_if adds term.now set.now)) }
+    ensures places { cut.new.places ≡ cut.old.places }
 {
-    let level = row_level(cut, ranks, row);
-    for set in sets {
-        add_product(cut, ranks, row, level, set.as_slice(), room)?;
+    if adds {
+        add_product(cut, term, level, set, set_level)?;
     }
     Ok(())
 }
 
-/// Adds the products of each of the terms of rows and of each of these sets of bits. After running out of memory the sum is not
-/// used again.
+// Adds the product of a term of bits up to a level and of both bits of a pair, which may be one, if the pair has it.
+fn add_both(cut: &mut Buckets, term: &Term<'_>, level: usize, pair: &Pair) -> Result<(), AllocError>
+    requires term { IsBitTerm (product_of term.now []) }
+    requires up_to { AreUpTo cut.old.places level (term_bits term.now) }
+    requires both { AreUpTo cut.old.places pair.now.level (both_bits pair.now) }
+    ensures sum { OnOk result (cut.new.terms ≡ plus text_cmp cut.old.terms (product_if pair.now.all term.now (both_bits pair.now))) }
+    ensures places { cut.new.places ≡ cut.old.places }
+{
+    let first = pair.first;
+    let second = pair.second;
+    if second < first {
+        return add_chosen(cut, term, level, &[second, first], pair.level, pair.all);
+    }
+    if second == first {
+        return add_chosen(cut, term, level, &[first], pair.level, pair.all);
+    }
+    add_chosen(cut, term, level, &[first, second], pair.level, pair.all)
+}
+
+// Adds the products of a term and of what a pair has.
+fn add_pair(cut: &mut Buckets, term: &Term<'_>, pair: &Pair) -> Result<(), AllocError>
+    requires term { IsBitTerm (product_of term.now []) }
+    requires levels { HasLevels cut.old.places pair.now }
+    ensures sum { OnOk result (cut.new.terms ≡ plus text_cmp cut.old.terms (products (product_of term.now []) (pair_sets pair.now))) }
+    ensures places { cut.new.places ≡ cut.old.places }
+{
+    let level = term_level(cut, term);
+    add_chosen(cut, term, level, &[], 0, pair.one)?;
+    add_chosen(
+        cut,
+        term,
+        level,
+        &[pair.second],
+        pair.second_level,
+        pair.high,
+    )?;
+    add_chosen(cut, term, level, &[pair.first], pair.first_level, pair.low)?;
+    add_both(cut, term, level, pair)
+}
+
+// Adds the products of a row's term without a bit, which it has to have, and of what a pair has.
+fn add_row(cut: &mut Buckets, ranks: &[u32], row: &Row, rank: u32, pair: &Pair) -> Result<(), Stop>
+    requires term { IsBitTerm (line_at ranks.now row.now) }
+    requires levels { HasLevels cut.old.places pair.now }
+    ensures put { OnOk result (ArePutIn rank (line_at ranks.now row.now ∷ []) (pair_sets pair.now) cut.old.terms cut.new.terms) }
+    ensures places { cut.new.places ≡ cut.old.places }
+{
+    match term_without(ranks, row, rank) {
+        None => Err(Stop::GivesUp),
+        Some(term) => {
+            add_pair(cut, &term, pair)?;
+            Ok(())
+        }
+    }
+}
+
+/// Adds the products of the terms of rows without a bit, which each has to have, and of what a pair has. After a stop the sum is
+/// not used again.
+pub fn add_rows(
+    cut: &mut Buckets,
+    ranks: &[u32],
+    rows: &[Row],
+    rank: u32,
+    pair: &Pair,
+) -> Result<(), Stop>
+    requires terms { AllByRecursion IsBitTerm (lines_of ranks.now rows.now) }
+    requires levels { HasLevels cut.old.places pair.now }
+    ensures { OnOk result (ArePutIn rank (lines_of ranks.now rows.now) (pair_sets pair.now) cut.old.terms cut.new.terms) }
+{
+    for row in rows {
+        add_row(cut, ranks, row, rank, pair)?;
+    }
+    Ok(())
+}
+
+// Adds the products of a term and of each of these sets of bits.
+fn add_products(cut: &mut Buckets, term: &Term<'_>, sets: &[Ranks]) -> Result<(), AllocError>
+    requires { IsBitTerm (product_of term.now []) }
+    ensures { OnOk result (cut.new.terms ≡ plus text_cmp cut.old.terms (products (product_of term.now []) sets.now)) }
+{
+    let level = term_level(cut, term);
+    for set in sets {
+        let bits = set.as_slice();
+        let bits_level = cut.level_for(bits);
+        add_product(cut, term, level, bits, bits_level)?;
+    }
+    Ok(())
+}
+
+// Adds the products of a row's term without a bit, which it has to have, and of each of these sets of bits.
+fn add_set_row(
+    cut: &mut Buckets,
+    ranks: &[u32],
+    row: &Row,
+    rank: u32,
+    sets: &[Ranks],
+) -> Result<(), Stop>
+    requires { IsBitTerm (line_at ranks.now row.now) }
+    ensures { OnOk result (ArePutIn rank (line_at ranks.now row.now ∷ []) sets.now cut.old.terms cut.new.terms) }
+{
+    match term_without(ranks, row, rank) {
+        None => Err(Stop::GivesUp),
+        Some(term) => {
+            add_products(cut, &term, sets)?;
+            Ok(())
+        }
+    }
+}
+
+/// Adds the products of the terms of rows without a bit, which each has to have, and of each of these sets of bits. After a stop
+/// the sum is not used again.
 pub fn add_all_products(
     cut: &mut Buckets,
     ranks: &[u32],
     rows: &[Row],
+    rank: u32,
     sets: &[Ranks],
-    room: &mut Vec<u32>,
-) -> Result<(), AllocError>
+) -> Result<(), Stop>
     requires { AllByRecursion IsBitTerm (lines_of ranks.now rows.now) }
-    ensures { OnOk result (cut.new.terms ≡ plus text_cmp cut.old.terms (all_products (lines_of ranks.now rows.now) sets.now)) }
+    ensures { OnOk result (ArePutIn rank (lines_of ranks.now rows.now) sets.now cut.old.terms cut.new.terms) }
 {
     for row in rows {
-        add_products(cut, ranks, row, sets, room)?;
-    }
-    Ok(())
-}
-
-// Adds the product of a term of bits up to a level and of other bits, if it is to be added.
-fn add_chosen(
-    cut: &mut Buckets,
-    ranks: &[u32],
-    row: &Row,
-    level: usize,
-    set: &[u32],
-    adds: bool,
-    room: &mut Vec<u32>,
-) -> Result<(), AllocError>
-    requires term { IsBitTerm (line_at ranks.now row.now) }
-    requires up_to { AreUpTo cut.old.places level (bits_at ranks.now row.now) }
-    ensures sum { OnOk result (cut.new.terms ≡ plus text_cmp cut.old.terms (if adds then (of_bits (union (bits_at ranks.now row.now) set.now), row.now.coefficient) ∷ [] else [])) }
-    ensures places { cut.new.places ≡ cut.old.places }
-{
-    if adds {
-        add_product(cut, ranks, row, level, set, room)?;
-    }
-    Ok(())
-}
-
-// Adds the product of a term of bits up to a level and of two bits, which may be one, if it is to be added.
-fn add_both(
-    cut: &mut Buckets,
-    ranks: &[u32],
-    row: &Row,
-    level: usize,
-    first: u32,
-    second: u32,
-    adds: bool,
-    room: &mut Vec<u32>,
-) -> Result<(), AllocError>
-    requires term { IsBitTerm (line_at ranks.now row.now) }
-    requires up_to { AreUpTo cut.old.places level (bits_at ranks.now row.now) }
-    ensures { OnOk result (cut.new.terms ≡ plus text_cmp cut.old.terms (if adds then (of_bits (union (bits_at ranks.now row.now) (with_rank (first ∷ []) second)), row.now.coefficient) ∷ [] else [])) }
-{
-    if second < first {
-        return add_chosen(cut, ranks, row, level, &[second, first], adds, room);
-    }
-    if second == first {
-        return add_chosen(cut, ranks, row, level, &[first], adds, room);
-    }
-    add_chosen(cut, ranks, row, level, &[first, second], adds, room)
-}
-
-// Adds the products of a term and of the sum of 1, two bits and the product of both, each if the form of a table of two bits
-// has it.
-fn add_pair(
-    cut: &mut Buckets,
-    ranks: &[u32],
-    row: &Row,
-    form: u64,
-    first: u32,
-    second: u32,
-    room: &mut Vec<u32>,
-) -> Result<(), AllocError>
-    requires { IsBitTerm (line_at ranks.now row.now) }
-    ensures { OnOk result (cut.new.terms ≡ plus text_cmp cut.old.terms (products (line_at ranks.now row.now) (monomials form [] (first ∷ second ∷ []) 0 1))) }
-{
-    let one = has_place(form, 0);
-    let low = has_place(form, 1);
-    let high = has_place(form, 2);
-    let all = has_place(form, 3);
-    let level = row_level(cut, ranks, row);
-    add_chosen(cut, ranks, row, level, &[], one, room)?;
-    add_chosen(cut, ranks, row, level, &[second], high, room)?;
-    add_chosen(cut, ranks, row, level, &[first], low, room)?;
-    add_both(cut, ranks, row, level, first, second, all, room)
-}
-
-/// Adds the products of each of the terms of rows and of the form of a table of two bits. After running out of memory the sum is
-/// not used again.
-pub fn add_all_pairs(
-    cut: &mut Buckets,
-    ranks: &[u32],
-    rows: &[Row],
-    form: u64,
-    first: u32,
-    second: u32,
-    room: &mut Vec<u32>,
-) -> Result<(), AllocError>
-    requires { AllByRecursion IsBitTerm (lines_of ranks.now rows.now) }
-    ensures { OnOk result (cut.new.terms ≡ plus text_cmp cut.old.terms (all_products (lines_of ranks.now rows.now) (monomials form [] (first ∷ second ∷ []) 0 1))) }
-{
-    for row in rows {
-        add_pair(cut, ranks, row, form, first, second, room)?;
+        add_set_row(cut, ranks, row, rank, sets)?;
     }
     Ok(())
 }

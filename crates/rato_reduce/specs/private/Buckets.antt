@@ -5,7 +5,6 @@ use Rattle.std.specs.List.Sorted.{IsStrictlySortedBy}
 use Rattle.std.specs.Ordering.{nat_cmp, eq_by_cmp}
 use Rattle.poly_mixed.specs.Monomial.{Monomial, text_cmp}
 use Rattle.poly_mixed.specs.Polynomial.{Terms}
-use Rattle.poly_mixed.specs.Cofactor.{cofactors, lacking}
 use Rattle.poly_mixed.specs.Sum.{plus, xor_sum}
 use Rattle.rato_reduce.specs.private.CutKey.{place_at}
 use Rattle.rato_reduce.specs.private.CutTerms.{of_bits, IsBitTerm}
@@ -45,13 +44,10 @@ pub record IsLine (places : List ℕ) (level : ℕ) (t : Monomial × ℕ) : Type
 abbrev pub ArePlaced : List ℕ → ℕ → Terms → Type 0
 ArePlaced places level ts = AllByRecursion (λ t. IsPlaced places level t.0) ts
 
--- the part has the terms with the bit, without it, and there are no others; equal ones may have been added
-pub record AreTaken (rank : ℕ) (lines part : Terms) : Type 0 where
-  pub taken : Terms
+-- terms of the same sum and of no greater levels
+pub record AreTaken (lines taken : Terms) : Type 0 where
   pub sums : HaveSameSum lines taken
   pub each : (places : List ℕ) (level : ℕ) → AllByRecursion (IsLine places level) lines → AllByRecursion (IsLine places level) taken
-  pub part_is : part ≡ cofactors rank taken
-  pub no_others : lacking rank taken ≡ []
 
 -- the terms of all lists
 abbrev pub joined : List Terms → Terms
@@ -103,10 +99,7 @@ pub record IsMergedAt (old new : List Terms) (i count n : ℕ) : Type 0 where
   pub is : IsListSet old new i before after
   pub merged : IsMerged before after count n
 
--- what is left when a list was taken from the end: the part has its terms with the bit, without it, and there are no others
-pub record AreOut (rank : ℕ) (old new : List Terms) (part : Terms) : Type 0 where
-  pub taken : Terms
+-- what is left when a list was taken from the end, and terms of its sum
+pub record AreOut (old new : List Terms) (taken : Terms) : Type 0 where
   pub sums : HaveSameSum (joined old) (joined new ++ taken)
   pub each : (places : List ℕ) → AreLevelled places 0 old → AllByRecursion IsBitTerm taken
-  pub part_is : part ≡ cofactors rank taken
-  pub no_others : lacking rank taken ≡ []

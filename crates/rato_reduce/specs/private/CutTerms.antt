@@ -83,3 +83,8 @@ pub record HasSetsPutIn (rank : ℕ) (sets : List (List ℕ)) (old new : Terms) 
   pub each : AllByRecursion IsBitTerm part
   pub part_is : plus text_cmp [] part ≡ cofactors rank old
   pub new_is : new ≡ plus text_cmp (lacking rank old) (all_products part sets)
+
+-- new is old and the products of the terms with the bit, without it, and of each of these sets of bits; all terms have the bit
+pub record ArePutIn (rank : ℕ) (terms : Terms) (sets : List (List ℕ)) (old new : Terms) : Type 0 where
+  pub sum : new ≡ plus text_cmp old (all_products (cofactors rank terms) sets)
+  pub no_others : lacking rank terms ≡ []

@@ -1,9 +1,11 @@
 -- Terms in no order, whose bits stand in one list. Source: this project's own.
-use Rattle.std.specs.Prelude.{◌≡◌, ℕ, ◌-◌, ◌≤◌, List, take, drop, length, map, bit_xor, Some, slice_get, slice_set}
+use Rattle.std.specs.Prelude.{◌≡◌, ℕ, ◌-◌, ◌≤◌, Bool, cond, List, [], ◌∷◌, ◌++◌, take, drop, length, map, bit_xor, Some, slice_get, slice_set}
 use Rattle.std.specs.List.{AllByRecursion}
 use Rattle.poly_mixed.specs.Monomial.{Monomial}
 use Rattle.poly_mixed.specs.Polynomial.{Terms}
+use Rattle.poly_mixed.specs.Product.{union}
 use Rattle.rato_reduce.specs.declared.row.Row.{Row}
+use Rattle.rato_reduce.specs.declared.term.Term.{Term}
 use Rattle.rato_reduce.specs.private.Buckets.{ArePlaced, HaveSameSum, IsLine}
 use Rattle.rato_reduce.specs.private.CutTerms.{of_bits}
 
@@ -18,6 +20,23 @@ line_at ranks row = (of_bits (bits_at ranks row), row.coefficient)
 -- the terms of rows
 abbrev pub lines_of : List ℕ → List Row → Terms
 lines_of ranks rows = map (line_at ranks) rows
+
+-- the bits of a term
+abbrev pub term_bits : Term → List ℕ
+term_bits term = term.front.now ++ term.back.now
+
+-- the product of a term and of a set of bits
+abbrev pub product_of : Term → List ℕ → Monomial × ℕ
+product_of term set = (of_bits (union (term_bits term) set), term.coefficient)
+
+-- the same, if it is to be added
+abbrev pub product_if : Bool → Term → List ℕ → Terms
+product_if adds term set = cond adds (product_of term set ∷ []) []
+
+-- a list with more behind it
+pub record IsLonger (old new : List ℕ) : Type 0 where
+  pub more : List ℕ
+  pub is : new ≡ old ++ more
 
 -- the bits of a row stand in the list
 pub record IsInside (ranks : List ℕ) (row : Row) : Type 0 where

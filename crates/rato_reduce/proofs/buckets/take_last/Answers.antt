@@ -24,7 +24,7 @@ returns-else-len-level-clause-counted c counted =
 
 pub returns-else-len-level-clause-taken : goal.returns-else-len-level-clause-taken
 returns-else-len-level-clause-taken c =
-    on_ok_weaker c.take_all.result (λ made. one_list_out c.args.rank c.args.list.now.items c.pop_from.new.list.items c.in-Some.bucket c.take_all.new.part c.in-Some.ensures.some made) c.take_all.ensures
+    on_ok_weaker c.take_all.result (λ made. one_list_out c.args.list.now.items c.pop_from.new.list.items c.in-Some.bucket c.take_all.new.part c.in-Some.ensures.some made) c.take_all.ensures
 
 pub returns-in-None-clause-taken : goal.returns-in-None-clause-taken
-returns-in-None-clause-taken c = no_list_out c.args.rank c.args.list.now.items c.pop_from.new.list.items c.args.part.now c.in-None.ensures.none.0 c.requires
+returns-in-None-clause-taken c = no_list_out c.args.list.now.items c.pop_from.new.list.items c.args.part.now c.in-None.ensures.none.0 c.requires

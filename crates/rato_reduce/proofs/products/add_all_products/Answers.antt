@@ -1,26 +1,45 @@
-use Rattle.std.proofs.Common.{◌≡◌, ℕ, suc, ◌+◌, ◌<◌, ◌∷◌, List, length, get_or, drop, drop-cons, ap, subst, arith}
+use Rattle.std.proofs.Common.{◌≡◌, ◌+◌, ℕ, List, [], drop, get_or, sym, ◌∙◌, ap, subst, arith}
 use Rattle.std.specs.List.{AllByRecursion}
+use Rattle.std.proofs.lemmas.List.{drop_all}
+use Rattle.poly_mixed.specs.Cofactor.{cofactors, lacking}
+use Rattle.poly_mixed.specs.Monomial.{text_cmp}
 use Rattle.poly_mixed.specs.Polynomial.{Terms}
+use Rattle.poly_mixed.specs.Sum.{plus}
 use Rattle.rato_reduce.specs.declared.row.Row.{Row}
-use Rattle.rato_reduce.specs.private.CutTerms.{IsBitTerm}
+use Rattle.rato_reduce.specs.private.CutTerms.{all_products, IsBitTerm}
 use Rattle.rato_reduce.specs.private.Rows.{line_at, lines_of}
-use Rattle.rato_reduce.proofs.CutPartLemmas.{step_products}
+use Rattle.rato_reduce.proofs.CutPartLemmas.{step_others, step_put}
+use Rattle.rato_reduce.proofs.RowLemmas.{next_line, no_row}
 use Rattle.rato_reduce.proofs.products.add_all_products.Goals as goal
-
-abbrev none : Row
-none = record { start = 0; stop = 0; hash = 0; coefficient = 0 }
-
-next : (ranks : List ℕ) (rows : List Row) (i : ℕ) → i < length rows → lines_of ranks (drop i rows) ≡ line_at ranks (get_or rows i none) ∷ lines_of ranks (drop (i + 1) rows)
-next ranks rows i less = let e : i + 1 ≡ suc i = omega arith in rw e (ap (lines_of ranks) (drop-cons rows i none less))
 
 pub loop-row-preserved : goal.loop-row-preserved
 loop-row-preserved c =
     let ranks = c.args.ranks.now in
     let rows = c.args.rows.now in
     let i = c.loop-row.row-index in
-    let left = next ranks rows i c.loop-row-test.true in
+    let line = line_at ranks (get_or rows i no_row) in
+    let rest = lines_of ranks (drop i rows) in
+    let after = lines_of ranks (drop (i + 1) rows) in
+    let next = next_line ranks rows i c.loop-row-test.true in
+    let sets : List (List ℕ) = c.args.sets.now in
     let P : Terms → Type 0 = AllByRecursion IsBitTerm in
     record {
-      each = (subst P left c.loop-row.invariant.each).1;
-      sum = step_products c.loop-row.cut.terms c.add_products.new.cut.terms _ (line_at ranks (get_or rows i none)) (lines_of ranks (drop i rows)) (lines_of ranks (drop (i + 1) rows)) c.args.sets.now left c.loop-row.invariant.sum c.in_ok-add_products.ensures;
+      each = (subst P next c.loop-row.invariant.each).1;
+      sum = step_put c.loop-row.cut.terms c.add_set_row.new.cut.terms _ c.args.rank line rest after sets next c.loop-row.invariant.sum c.in_ok-add_set_row.ensures;
+      others = step_others c.loop-row.cut.terms c.add_set_row.new.cut.terms c.args.rank line rest after _ sets next c.loop-row.invariant.others c.in_ok-add_set_row.ensures;
+    }
+
+pub add_set_row-requires : goal.add_set_row-requires
+add_set_row-requires c =
+    let P : Terms → Type 0 = AllByRecursion IsBitTerm in
+    (subst P (next_line c.args.ranks.now c.args.rows.now c.loop-row.row-index c.loop-row-test.true) c.loop-row.invariant.each).0
+
+pub returns : goal.returns
+returns c =
+    let rows = c.args.rows.now in
+    let ranks = c.args.ranks.now in
+    let done : drop c.loop-row.row-index rows ≡ [] = drop_all c.loop-row.row-index rows (omega arith) in
+    record {
+      sum = sym (ap (λ (rs : List Row). plus text_cmp c.loop-row.cut.terms (all_products (cofactors c.args.rank (lines_of ranks rs)) c.args.sets.now)) done) ∙ c.loop-row.invariant.sum;
+      no_others = sym c.loop-row.invariant.others ∙ ap (λ (rs : List Row). lacking c.args.rank (lines_of ranks rs)) done;
     }

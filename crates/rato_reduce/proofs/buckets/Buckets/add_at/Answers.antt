@@ -3,10 +3,12 @@ use Rattle.std.proofs.lemmas.Result.{on_ok_weaker}
 use Rattle.poly_mixed.specs.Monomial.{Monomial, text_cmp}
 use Rattle.poly_mixed.specs.Polynomial.{Terms}
 use Rattle.poly_mixed.specs.Sum.{plus, plus_term}
-use Rattle.rato_reduce.specs.private.CutTerms.{of_bits}
+use Rattle.poly_mixed.proofs.ProductLemmas.{rising-union}
 use Rattle.rato_reduce.specs.private.Buckets.{joined, AreLevelled, AreUpTo, HasTermAt, IsCounted, IsLine, ListedPolynomial}
+use Rattle.rato_reduce.specs.private.Rows.{product_of, term_bits}
 use Rattle.rato_reduce.proofs.AddedLemmas.{either_way, refilled}
 use Rattle.rato_reduce.proofs.BucketLemmas.{added_long, added_polynomial, added_state, kept_state}
+use Rattle.rato_reduce.proofs.LevelLemmas.{up_to_both}
 use Rattle.rato_reduce.proofs.buckets.Buckets.add_at.Goals as goal
 
 -- the lists, as many as the level needs
@@ -14,16 +16,19 @@ abbrev raised : (c : goal.After-self-2-1) → List Terms
 raised c = c.raise.new.list.items
 
 abbrev term : (c : goal.After-self-2-1) → Monomial × ℕ
-term c = (of_bits c.args.bits.now, c.args.c)
+term c = product_of c.args.term.now c.args.set.now
 
 are : (c : goal.After-self-2-1) → AreLevelled c.self.inside.places.items 0 (raised c)
 are c = c.raise.ensures.levelled c.self.inside.places.items c.self.invariant.0
 
 line : (c : goal.After-self-2-1) → IsLine c.self.inside.places.items c.args.level (term c)
 line c =
-    let R : List ℕ → Type 0 = λ places. AreUpTo places c.args.level c.args.bits.now in
-    let up : AreUpTo c.self.inside.places.items c.args.level c.args.bits.now = subst R (sym (ap (λ (q : ListedPolynomial). q.places) c.self.view_is)) c.requires.up_to in
-    record { placed = record { no_words = refl; rising = c.requires.rising; up_to = up }; some = c.requires.some }
+    let places = c.self.inside.places.items in
+    let bits : List ℕ = term_bits c.args.term.now in
+    let set : List ℕ = c.args.set.now in
+    let R : List ℕ → Type 0 = λ ps. AreUpTo ps c.args.level bits × AreUpTo ps c.args.level set in
+    let up : AreUpTo places c.args.level bits × AreUpTo places c.args.level set = subst R (sym (ap (λ (q : ListedPolynomial). q.places) c.self.view_is)) (c.requires.up_to, c.requires.set) in
+    record { placed = record { no_words = refl; rising = rising-union bits set c.requires.rising; up_to = up_to_both places c.args.level bits set up.0 up.1 }; some = c.requires.some }
 
 has : (c : goal.After-self-2-1) → HasTermAt c.as_mut_slice.result.now c.push_at.new.list c.args.level (term c) → HasTermAt (raised c) c.push_at.new.list c.args.level (term c)
 has c at = let P : List Terms → Type 0 = λ ls. HasTermAt ls c.push_at.new.list c.args.level (term c) in subst P c.as_mut_slice.ensures.value at

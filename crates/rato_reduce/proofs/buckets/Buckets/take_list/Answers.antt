@@ -1,9 +1,10 @@
 use Rattle.std.proofs.Common.{◌≡◌, ◌≤◌, ℕ, length, ◌∙◌, ap, subst}
+use Rattle.std.proofs.lemmas.Result.{on_ok_weaker}
 use Rattle.poly_mixed.specs.Cofactor.{cofactors, lacking}
 use Rattle.rato_reduce.specs.private.Buckets.{level_at, AreLevelled, ListedPolynomial}
 use Rattle.rato_reduce.proofs.AddedLemmas.{ok_both}
-use Rattle.rato_reduce.proofs.BucketLemmas.{out_each, out_left, out_part}
-use Rattle.rato_reduce.proofs.buckets.Buckets.take_with.Goals as goal
+use Rattle.rato_reduce.proofs.BucketLemmas.{out_left, out_part}
+use Rattle.rato_reduce.proofs.buckets.Buckets.take_list.Goals as goal
 
 -- the level is that of the bit
 level : (c : goal.After-take_last) → c.level_of-level.result ≡ level_at c.self.inside.places.items c.args.rank
@@ -16,8 +17,8 @@ pub returns-clause-left : goal.returns-clause-left
 returns-clause-left c =
     let P : ℕ → Type 0 = λ n. length c.take_last.new.list.items ≤ n in
     ok_both c.take_last.result
-    (λ made long.
-    out_left c.self.inside.places.items c.args.rank c.self.inside.list.items c.take_last.new.list.items c.take_last.new.part c.self.invariant.0 (after c) (subst P (level c) long) made
+    (λ made long others.
+    out_left c.self.inside.places.items c.args.rank c.self.inside.list.items c.take_last.new.list.items c.take_last.new.part c.self.invariant.0 (after c) (subst P (level c) long) made others
     ∙ ap (λ (q : ListedPolynomial). lacking c.args.rank q.terms) c.self.view_is)
     c.take_last.ensures.taken c.take_last.ensures.rest
 
@@ -25,14 +26,10 @@ pub returns-clause-part : goal.returns-clause-part
 returns-clause-part c =
     let P : ℕ → Type 0 = λ n. length c.take_last.new.list.items ≤ n in
     ok_both c.take_last.result
-    (λ made long.
+    (λ made long others.
     out_part c.self.inside.places.items c.args.rank c.self.inside.list.items c.take_last.new.list.items c.take_last.new.part c.self.invariant.0 (after c) (subst P (level c) long) made
     ∙ ap (λ (q : ListedPolynomial). cofactors c.args.rank q.terms) c.self.view_is)
     c.take_last.ensures.taken c.take_last.ensures.rest
 
 pub returns-clause-each : goal.returns-clause-each
-returns-clause-each c =
-    let P : ℕ → Type 0 = λ n. length c.take_last.new.list.items ≤ n in
-    ok_both c.take_last.result
-    (λ made long. out_each c.self.inside.places.items c.args.rank c.self.inside.list.items c.take_last.new.list.items c.take_last.new.part c.self.invariant.0 (after c) (subst P (level c) long) made)
-    c.take_last.ensures.taken c.take_last.ensures.rest
+returns-clause-each c = on_ok_weaker c.take_last.result (λ made. made.each c.self.inside.places.items c.self.invariant.0) c.take_last.ensures.taken
