@@ -1,4 +1,4 @@
-use Rattle.std.proofs.Common.{◌≡◌, ap, inl, cond, false}
+use Rattle.std.proofs.Common.{◌≡◌, ap, cond, false}
 use Rattle.std.specs.Prelude.{string_bytes}
 use Rattle.net_blif.specs.Design.{items_of}
 use Rattle.net_flat.specs.private.KnownNumbers.{known_in}
@@ -6,9 +6,6 @@ use Rattle.net_flat.specs.private.LocalWalk.{is_in_top, InTop, Inside}
 use Rattle.net_flat.specs.private.WalkerState.{state_of}
 use Rattle.net_flat.proofs.OnceLemmas.{through_body}
 use Rattle.net_flat.proofs.walker.Walker.lines_of.Goals as goal
-
-pub returns-then-self : goal.returns-then-self
-returns-then-self c = inl c.items.ensures
 
 pub returns-else-self : goal.returns-else-self
 returns-else-self c =
