@@ -1,6 +1,6 @@
 -- The values of multiples and products of polynomials in one word, and the order of their powers.
 use Rattle.std.proofs.Common.{◌≡◌, ◌∙◌, ap, sym, refl, subst, ℕ, zero, suc, ◌<◌, ◌≤◌, ◌+◌, ◌-◌, ◌^◌, nat_lt, List, [], ◌∷◌, ◌++◌, length, take, drop, get_or, bit_xor, inl, inr, arith}
-use Rattle.std.specs.Int.Bits.{xor_zero_r}
+use Rattle.std.specs.Int.Bits.{xor_zero_l, xor_zero_r, xor_assoc}
 use Rattle.std.proofs.lemmas.Bool.{lt-ltb, le-ltb, cond-true, cond-false, cases_lt}
 use Rattle.std.proofs.lemmas.Nat.{pow_pos}
 use Rattle.std.proofs.lemmas.List.{drop_more, take_more, length-map}
@@ -166,6 +166,39 @@ module _ {k : ℕ} {mul : ℕ → ℕ → ℕ} (f : IsField k mul) where
         ∙ (ap (bit_xor (value_of mul x new)) (product_by_zero f (value_of mul x us) (value_of_element f x us at left.powers)) ∙ xor_zero_r (value_of mul x new)))
         ∙ so_far x at;
   }
+
+  -- the sum of the multiples by the first powers, of which there are none, and with one more
+  module _ (us vs items : Powers) (left : IsUnivariate k us) (right : IsUnivariate k vs) (same : items ≡ vs) where
+    pub no_multiples : (out : Powers) → out ≡ [] → IsUnivariate k out × ((x : ℕ) → IsElement k x → bit_xor (value_of mul x out) (mul (value_of mul x us) (value_of mul x (drop 0 vs))) ≡ mul (value_of mul x us) (value_of mul x vs))
+    no_multiples out none =
+        let P : Powers → Type 0 = λ ts. IsUnivariate k ts × ((x : ℕ) → IsElement k x → bit_xor (value_of mul x ts) (mul (value_of mul x us) (value_of mul x (drop 0 vs))) ≡ mul (value_of mul x us) (value_of mul x vs)) in
+        subst P (sym none) (record { rising = tt; powers = tt }, λ x at. xor_zero_l (mul (value_of mul x us) (value_of mul x vs)))
+
+    pub power_at : (i : ℕ) → i < length items → IsPower k (get_or items i (0, 0))
+    power_at i less =
+        let P : Powers → Type 0 = AllByRecursion (IsPower k) in
+        let rest = subst P (drop_more items i (0, 0) less) (all_drop (IsPower k) i items (subst P (sym same) right.powers)) in
+        rest.0
+
+    pub more_multiples : (i : ℕ) (out part new : Powers) → i < length items → IsMultiple k mul (get_or items i (0, 0)) us part → IsSum k mul out part new
+        → ((x : ℕ) → IsElement k x → bit_xor (value_of mul x out) (mul (value_of mul x us) (value_of mul x (drop i vs))) ≡ mul (value_of mul x us) (value_of mul x vs))
+        → (x : ℕ) → IsElement k x → bit_xor (value_of mul x new) (mul (value_of mul x us) (value_of mul x (drop (i + 1) vs))) ≡ mul (value_of mul x us) (value_of mul x vs)
+    more_multiples i out part new less multiple sum so_far x at =
+        let t : ℕ × ℕ = get_or items i (0, 0) in
+        let rest : Powers = drop (i + 1) vs in
+        let l : ℕ = value_of mul x us in
+        let p : ℕ = power_value mul x t in
+        let v : ℕ = value_of mul x rest in
+        let o : ℕ = value_of mul x out in
+        let hl = value_of_element f x us at left.powers in
+        let hp = power_value_element f x t at (power_at i less) in
+        let hv = value_of_element f x rest at (all_drop (IsPower k) (i + 1) vs right.powers) in
+        let P : Powers → Type 0 = λ ts. drop i ts ≡ t ∷ drop (i + 1) ts in
+        let split : drop i vs ≡ t ∷ rest = subst P same (drop_more items i (0, 0) less) in
+        ap (λ n. bit_xor n (mul l v)) (sum.values x at ∙ ap (bit_xor o) (multiple.values x at ∙ f.comm p l hp hl))
+        ∙ (xor_assoc o (mul l p) (mul l v)
+        ∙ (ap (bit_xor o) (sym (distrib_right f l p v hl hp hv))
+        ∙ (ap (λ ts. bit_xor o (mul l (value_of mul x ts))) (sym split) ∙ so_far x at)))
 
   -- the factors may change places
   pub product_swapped : (us vs new : Powers) → IsUnivariate k us → IsUnivariate k vs → IsProductOfTwo k mul vs us new → IsProductOfTwo k mul us vs new
