@@ -21,14 +21,14 @@ impl Model for Term {
 }
 
 impl Term {
-    // A monomial with this coefficient.
-    pub(crate) fn new(mono: Mono, coefficient: u64) -> Term
+    /// A monomial with this coefficient.
+    pub fn new(mono: Mono, coefficient: u64) -> Term
         ensures { result ≡ (mono, coefficient) }
     {
         Term { coefficient, mono }
     }
 
-    /// The coefficient, which is not 0.
+    /// The coefficient; of a term of a polynomial it is not 0.
     pub fn coefficient(&self) -> u64
         ensures { result ≡ self.now.1 }
     {
