@@ -12,7 +12,8 @@ use poly_mixed::{Generator, Labels, Poly, Steps, Term};
 use std::alloc::{AllocError, Global};
 use std::marker::Model;
 
-// A generator with its multiplier: the coefficient and the bit of one term that has no more, and else the terms.
+// A generator with its multiplier: the coefficient and the bit of an only term that is found to have no more, and else the
+// terms.
 #[derive(Drop)]
 pub(crate) struct Entry {
     pub(crate) generator: Generator,

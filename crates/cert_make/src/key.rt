@@ -8,7 +8,7 @@ use std::alloc::{AllocError, Global};
 use std::cmp::Ordering;
 use std::marker::Model;
 
-/// What a multiplier is known by: a coefficient and at most one bit where it has these alone, and else its text.
+/// What a multiplier is known by: a coefficient and at most one bit of a word where it has these alone, and else its text.
 /// Two that are alike are told apart, or told the same, by numbers where they can be.
 #[derive(Drop)]
 pub(crate) struct Key {

@@ -56,7 +56,8 @@ fn place_in(mono: &Mono, bound: u64) -> Option<u64>
     }
 }
 
-/// The coefficient and the place of the only term, where its monomial has a place for ranks below a bound.
+/// The coefficient and the place of the only term, where its monomial has a place for ranks below a bound. Of terms that were
+/// kept it finds those that stood in another slot than the first.
 pub(crate) fn short_of(terms: &[Term], bound: u64) -> Option<(u64, u64)>
     ensures { result ≡ short_form bound terms.now }
 {

@@ -84,7 +84,7 @@ impl Reader {
         literal == other || self.is_known(literal)
     }
 
-    // Whether neither of two ports is given a name. Then their names are different.
+    // Whether neither of two ports is given a name. Two different ports have different names then.
     fn have_none(&self, port: u64, other: u64) -> bool
         ensures { result ≡ (not (is_some (lookup (nat_eq port) self.now.symbols)) && not (is_some (lookup (nat_eq other) self.now.symbols))) }
     {

@@ -173,7 +173,7 @@ impl Reader {
         self.section_line(line, &numbers)
     }
 
-    // What a line says that is to say numbers. Most say one, which needs no list.
+    // What a line says that is to say numbers. One that is a number alone, as an input's and an output's, needs no list.
     fn number_line(&mut self, line: u32, bytes: &[u8]) -> Result<(), AigerFault>
         ensures made { OnOk result (numbers_say line (numbers_of (words_of bytes.now)) self.old ≡ Ok self.new) }
         ensures fault { IfErr result (λ e. (e ≡ AigerFault.OutOfMemory) ⊎ (numbers_say line (numbers_of (words_of bytes.now)) self.old ≡ Err e)) }
