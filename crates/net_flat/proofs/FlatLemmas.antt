@@ -3,15 +3,15 @@ use Rattle.std.proofs.Common.{◌≡◌, ◌⊎◌, ◌∙◌, inl, inr, ap, sym
 use Rattle.net_core.specs.NetList.{NetList}
 use Rattle.net_core.specs.Finish.{Finishes}
 use Rattle.net_core.specs.declared.fault.NetFault.{NetFault}
-use Rattle.net_core.specs.declared.fault.NetFault.TheVariants as faults
 use Rattle.net_core.proofs.SettleLemmas.{settles}
 use Rattle.net_blif.specs.Design.{ModelValue}
 use Rattle.net_flat.specs.Walk.{walk_of}
 use Rattle.net_flat.specs.Flat.{net_list, nothing, walked, Flat, Flattens}
 use Rattle.net_flat.specs.private.LocalWalk.{IsFaultOf, IsWalked, State}
 use Rattle.net_flat.specs.private.WholeWalk.{local_walk}
+use Rattle.net_flat.specs.private.Stopping.{IsFaultBy}
 use Rattle.net_flat.specs.declared.flat_fault.FlatFault.{FlatFault}
-use Rattle.net_flat.specs.declared.flat_fault.FlatFault.TheVariants.{Net, OutOfMemory}
+use Rattle.net_flat.specs.declared.flat_fault.FlatFault.TheVariants.{OutOfMemory}
 use Rattle.net_flat.proofs.SameLemmas.{walk_same, Same}
 
 flat_made : (a : Result Flat FlatFault) (b : Result State FlatFault) (net : NetList) → Same [] nothing a b → IsWalked b net → (flat : Flat) × (a ≡ Ok flat) × (net_list flat ≡ net)
@@ -37,7 +37,7 @@ flattens design model net made walk finished =
     (flat.0, sym flat.1, subst P (sym flat.2) finished)
 
 -- what comes of a net list that is not sound
-pub unsound : (design : List ModelValue) (model : ℕ) (net : NetList) (refusal : NetFault) (fault : FlatFault) → IsWalked (local_walk design model) net → Finishes net (Err refusal) → ((refusal ≡ faults.OutOfMemory) × (fault ≡ OutOfMemory)) ⊎ (¬ (refusal ≡ faults.OutOfMemory) × (fault ≡ Net refusal)) → (fault ≡ OutOfMemory) ⊎ Flattens design model (Err fault)
+pub unsound : (design : List ModelValue) (model : ℕ) (net : NetList) (refusal : NetFault) (fault : FlatFault) → IsWalked (local_walk design model) net → Finishes net (Err refusal) → IsFaultBy refusal fault → (fault ≡ OutOfMemory) ⊎ Flattens design model (Err fault)
 unsound design model net refusal fault walk finished (inl (wanting, is)) = inl is
 unsound design model net refusal fault walk finished (inr (other, is)) =
     let flat = flat_made (walked nothing (walk_of design model)) (local_walk design model) net (walk_same design model) walk in

@@ -18,8 +18,9 @@ use Rattle.net_blif.specs.Statement.{Token}
 use Rattle.net_blif.specs.Table.{with_number, Numbers}
 use Rattle.net_flat.specs.Steps.{gate_steps, latch_steps, Step, Mention, Gate, Latch}
 use Rattle.net_flat.specs.private.LocalWalk.{found, found_by, local_gate, local_latch, local_step, local_walked, local_with, net_with, number_in, on_net, state_with, with_new, AreInside, HasEach, InTop, Inside, IsFaultOf, Local, State}
+use Rattle.net_flat.specs.private.Stopping.{IsFaultBy}
 use Rattle.net_flat.specs.declared.flat_fault.FlatFault.{FlatFault}
-use Rattle.net_flat.specs.declared.flat_fault.FlatFault.TheVariants.{Net, OutOfMemory}
+use Rattle.net_flat.specs.declared.flat_fault.FlatFault.TheVariants.{Net}
 use Rattle.net_flat.proofs.SameLemmas.{walked_append}
 
 -- a first part that was walked
@@ -174,10 +175,6 @@ found_inside s name k is at = is name k at
 
 pub numbers_inside : (s : State) (names : List Token) → AreInside s → HasEach s names → All (λ n. n < nets s.net) (map (number_in s) names)
 numbers_inside s names is each = All-map (λ n. n < nets s.net) (number_in s) names (λ i d less. let h = each i d less in let same : number_in s (get_or names i d) ≡ h.0 = ap (λ (n : Option ℕ). unwrap_or n 0) h.1 in rw same (is (get_or names i d) h.0 h.1))
-
--- what the maker answers to a name, as a step
-abbrev IsFaultBy : NetFault → FlatFault → Type 0
-IsFaultBy refusal fault = ((refusal ≡ faults.OutOfMemory) × (fault ≡ OutOfMemory)) ⊎ (¬ (refusal ≡ faults.OutOfMemory) × (fault ≡ Net refusal))
 
 -- what was inserted is found
 pub inserted : (numbers more : Numbers) (name : Token) (n : ℕ) → more ≡ with_number numbers name n → more name ≡ Some n

@@ -6,3 +6,4 @@ pub mod LocalScope
 pub mod WalkerState
 pub mod Entering
 pub mod WholeWalk
+pub mod Stopping

@@ -4,11 +4,12 @@ ghost use Rattle.net_blif.specs.Design.{ModelValue};
 ghost use Rattle.net_flat.specs.Flat.{Flattens};
 ghost use Rattle.net_flat.specs.private.LocalWalk.{IsFaultOf, IsWalked};
 ghost use Rattle.net_flat.specs.private.WholeWalk.{local_walk};
+ghost use Rattle.net_flat.specs.private.Stopping.{IsFaultBy};
 
 use crate::FlatFault;
-use crate::walker::{Walker, fault_of};
+use crate::walker::Walker;
 use net_blif::Design;
-use net_core::{Net, NetMaker};
+use net_core::{Net, NetFault, NetMaker};
 use std::alloc::Global;
 
 // The most models of a chain, which no chain of a design passes.
@@ -20,8 +21,20 @@ fn walk(alloc: Global, design: &Design, model: u32) -> Result<NetMaker, FlatFaul
     ensures fault { IfErr result (IsFaultOf (local_walk design.now model)) }
 {
     let mut walker = Walker::new(alloc, design.key());
-    walker.walk(design, model, MAX_CHAIN)?;
-    Ok(walker.into_maker())
+    match walker.walk(design, model, MAX_CHAIN) {
+        Ok(()) => Ok(walker.into_maker()),
+        Err(stop) => Err(stop.into_fault()),
+    }
+}
+
+// A fault of nets, or out of memory.
+fn fault_of(fault: NetFault) -> FlatFault
+    ensures { IsFaultBy fault result }
+{
+    match fault {
+        NetFault::OutOfMemory => FlatFault::OutOfMemory,
+        fault => FlatFault::Net(fault),
+    }
 }
 
 // The net of the net list of a model's walk, if it is sound.

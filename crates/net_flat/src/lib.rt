@@ -15,6 +15,7 @@ mod order;
 mod part_laws;
 mod place;
 mod scope;
+mod stop;
 mod walk;
 mod walker;
 

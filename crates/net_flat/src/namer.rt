@@ -6,8 +6,7 @@ ghost use Rattle.net_blif.specs.Statement.{IsToken};
 ghost use Rattle.net_flat.specs.Steps.{Mention};
 ghost use Rattle.net_flat.specs.private.LocalWalk.{InTop, IsFaultOf, local_step, state_with};
 
-use crate::FlatFault;
-use crate::walker::fault_of;
+use crate::stop::Stop;
 use net_blif::text_of;
 use net_core::{NetFault, NetMaker, Start};
 use std::alloc::{AllocError, Global};
@@ -35,7 +34,7 @@ impl<'a> Model for Namer<'a> {
 }
 
 // The number of the net of a name of the chosen model, which is made if it is new.
-fn mention_in(maker: &mut NetMaker, name: &str) -> Result<u32, FlatFault>
+fn mention_in(maker: &mut NetMaker, name: &str) -> Result<u32, Stop>
     requires { IsNetName name.now }
     ensures number { IfOk result (λ n. number_of maker.new name.now ≡ Some n) }
     ensures made { (i : ℕ) → OnOk result (local_step (state_with maker.old i InTop) (Mention name.now) ≡ Ok (state_with maker.new i InTop)) }
@@ -43,7 +42,7 @@ fn mention_in(maker: &mut NetMaker, name: &str) -> Result<u32, FlatFault>
 {
     match maker.net(name) {
         Ok(number) => Ok(number),
-        Err(fault) => Err(fault_of(fault)),
+        Err(fault) => Err(Stop::of_net(fault)),
     }
 }
 
@@ -94,7 +93,7 @@ impl<'a> Namer<'a> {
     }
 
     // The number of the net of a name that is looked up, and made if it is new.
-    fn look_up(&mut self, name: &[u8]) -> Result<u32, FlatFault>
+    fn look_up(&mut self, name: &[u8]) -> Result<u32, Stop>
         requires { IsToken name.now }
         ensures number { IfOk result (λ n. number_of self.new name.now ≡ Some n) }
         ensures made { (i : ℕ) → OnOk result (local_step (state_with self.old i InTop) (Mention name.now) ≡ Ok (state_with self.new i InTop)) }
@@ -105,7 +104,7 @@ impl<'a> Namer<'a> {
     }
 
     /// The number of the net of a name of the chosen model, which is made if it is new.
-    pub fn mention(&mut self, name: &'a [u8]) -> Result<u32, FlatFault>
+    pub fn mention(&mut self, name: &'a [u8]) -> Result<u32, Stop>
         requires { IsToken name.now }
         ensures number { IfOk result (λ n. number_of self.new name.now ≡ Some n) }
         ensures made { (i : ℕ) → OnOk result (local_step (state_with self.old i InTop) (Mention name.now) ≡ Ok (state_with self.new i InTop)) }

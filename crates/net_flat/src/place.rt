@@ -8,8 +8,8 @@ ghost use Rattle.net_flat.specs.Steps.{Enter, Mention, actual_steps, gate_steps,
 ghost use Rattle.net_flat.specs.private.LocalWalk.{AreInside, HasEach, IsFaultOf, found, is_in_top, local_step, local_walked, number_in};
 ghost use Rattle.net_flat.specs.private.WalkerState.{state_of};
 
-use crate::FlatFault;
-use crate::walker::{Walker, fault_of};
+use crate::stop::{Cause, Stop};
+use crate::walker::Walker;
 use net_blif::{Item, TokenSlice, sides};
 use net_core::Start;
 
@@ -17,7 +17,7 @@ const MAX_INSTANCES: u32 = 1 << 20;
 
 impl<'a> Walker<'a> {
     // Mentions a name, and makes its net a primary input in the chosen model.
-    fn place_input(&mut self, name: &'a [u8]) -> Result<(), FlatFault>
+    fn place_input(&mut self, name: &'a [u8]) -> Result<(), Stop>
         requires name { IsToken name.now }
         requires inside { AreInside (state_of self.old) }
         ensures made { OnOk result (local_walked (state_of self.old) (input_steps (is_in_top (state_of self.old).local) name.now) ≡ Ok (state_of self.new)) }
@@ -35,7 +35,7 @@ impl<'a> Walker<'a> {
     }
 
     // Mentions a name, and makes its net an output in the chosen model.
-    fn place_output(&mut self, name: &'a [u8]) -> Result<(), FlatFault>
+    fn place_output(&mut self, name: &'a [u8]) -> Result<(), Stop>
         requires name { IsToken name.now }
         requires inside { AreInside (state_of self.old) }
         ensures made { OnOk result (local_walked (state_of self.old) (output_steps (is_in_top (state_of self.old).local) name.now) ≡ Ok (state_of self.new)) }
@@ -52,7 +52,7 @@ impl<'a> Walker<'a> {
         Ok(())
     }
 
-    fn place_inputs(&mut self, names: &TokenSlice<'a>) -> Result<(), FlatFault>
+    fn place_inputs(&mut self, names: &TokenSlice<'a>) -> Result<(), Stop>
         requires names { All IsToken names.now }
         requires inside { AreInside (state_of self.old) }
         ensures made { OnOk result (local_walked (state_of self.old) (flat_map (input_steps (is_in_top (state_of self.old).local)) names.now) ≡ Ok (state_of self.new)) }
@@ -65,7 +65,7 @@ impl<'a> Walker<'a> {
         Ok(())
     }
 
-    fn place_outputs(&mut self, names: &TokenSlice<'a>) -> Result<(), FlatFault>
+    fn place_outputs(&mut self, names: &TokenSlice<'a>) -> Result<(), Stop>
         requires names { All IsToken names.now }
         requires inside { AreInside (state_of self.old) }
         ensures made { OnOk result (local_walked (state_of self.old) (flat_map (output_steps (is_in_top (state_of self.old).local)) names.now) ≡ Ok (state_of self.new)) }
@@ -79,7 +79,7 @@ impl<'a> Walker<'a> {
     }
 
     // Mentions names, whose numbers are then the list.
-    fn mention_all(&mut self, names: &TokenSlice<'a>) -> Result<(), FlatFault>
+    fn mention_all(&mut self, names: &TokenSlice<'a>) -> Result<(), Stop>
         requires names { All IsToken names.now }
         requires inside { AreInside (state_of self.old) }
         ensures numbers { OnOk result (self.new.inputs.items ≡ map (number_in (state_of self.new)) names.now) }
@@ -97,12 +97,7 @@ impl<'a> Walker<'a> {
     }
 
     // Adds a gate on the nets of names.
-    fn place_gate(
-        &mut self,
-        inputs: &TokenSlice<'a>,
-        out: &'a [u8],
-        table: u64,
-    ) -> Result<(), FlatFault>
+    fn place_gate(&mut self, inputs: &TokenSlice<'a>, out: &'a [u8], table: u64) -> Result<(), Stop>
         requires inputs { All IsToken inputs.now }
         requires few { length inputs.now ≤ 6 }
         requires out { IsToken out.now }
@@ -116,12 +111,12 @@ impl<'a> Walker<'a> {
         let number = self.mention(out)?;
         match self.maker.gate(number, self.inputs.as_slice(), table) {
             Ok(()) => Ok(()),
-            Err(fault) => Err(fault_of(fault)),
+            Err(fault) => Err(Stop::of_gate(fault)),
         }
     }
 
     // Adds a latch on the nets of names.
-    fn place_latch(&mut self, next: &'a [u8], out: &'a [u8], start: Start) -> Result<(), FlatFault>
+    fn place_latch(&mut self, next: &'a [u8], out: &'a [u8], start: Start) -> Result<(), Stop>
         requires next { IsToken next.now }
         requires out { IsToken out.now }
         requires inside { AreInside (state_of self.old) }
@@ -133,26 +128,28 @@ impl<'a> Walker<'a> {
         let driven = self.mention(out)?;
         match self.maker.latch(read, driven, start) {
             Ok(()) => Ok(()),
-            Err(fault) => Err(fault_of(fault)),
+            Err(fault) => Err(Stop::of_gate(fault)),
         }
     }
 
     // Goes into an instance, if there may be one more.
-    fn begin_instance(&mut self) -> Result<(), FlatFault>
+    fn begin_instance(&mut self) -> Result<(), Stop>
         requires { AreInside (state_of self.old) }
         ensures made { OnOk result (local_step (state_of self.old) Enter ≡ Ok (state_of self.new)) }
         ensures inside { OnOk result (AreInside (state_of self.new)) }
         ensures fault { IfErr result (IsFaultOf (local_step (state_of self.old) Enter)) }
     {
         if self.instances >= MAX_INSTANCES {
-            return Err(FlatFault::TooManyInstances);
+            return Err(Stop {
+                cause: Cause::TooManyInstances,
+            });
         }
         self.instances += 1;
         Ok(())
     }
 
     // Mentions the actual of a connection.
-    fn place_actual(&mut self, connection: &'a [u8]) -> Result<u32, FlatFault>
+    fn place_actual(&mut self, connection: &'a [u8]) -> Result<u32, Stop>
         requires connection { IsToken connection.now }
         requires sides { IsTrue (is_connection connection.now) }
         requires inside { AreInside (state_of self.old) }
@@ -167,7 +164,7 @@ impl<'a> Walker<'a> {
     }
 
     // Mentions the actuals of connections, whose numbers are then the list.
-    fn place_actuals(&mut self, connections: &TokenSlice<'a>) -> Result<(), FlatFault>
+    fn place_actuals(&mut self, connections: &TokenSlice<'a>) -> Result<(), Stop>
         requires connections { All IsToken connections.now }
         requires sides { IsTrue (list_all is_connection connections.now) }
         requires inside { AreInside (state_of self.old) }
@@ -186,7 +183,7 @@ impl<'a> Walker<'a> {
     }
 
     /// Goes into an instance and mentions what is connected, whose numbers are then the list.
-    pub fn place_instance(&mut self, connections: &TokenSlice<'a>) -> Result<(), FlatFault>
+    pub fn place_instance(&mut self, connections: &TokenSlice<'a>) -> Result<(), Stop>
         requires connections { All IsToken connections.now }
         requires sides { IsTrue (list_all is_connection connections.now) }
         requires inside { AreInside (state_of self.old) }
@@ -202,7 +199,7 @@ impl<'a> Walker<'a> {
     }
 
     /// Places what a line says; the body of an instance is left.
-    pub fn place(&mut self, item: &Item<'a>) -> Result<(), FlatFault>
+    pub fn place(&mut self, item: &Item<'a>) -> Result<(), Stop>
         requires sound { IsSoundItem item.now }
         requires inside { AreInside (state_of self.old) }
         ensures made { OnOk result (local_walked (state_of self.old) (steps_of (is_in_top (state_of self.old).local) item.now) ≡ Ok (state_of self.new)) }

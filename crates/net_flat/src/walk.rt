@@ -16,9 +16,9 @@ ghost use Rattle.net_flat.specs.private.LocalWalk.{AreInside, IsFaultOf, entered
 ghost use Rattle.net_flat.specs.private.WalkerState.{state_of};
 ghost use Rattle.net_flat.specs.private.Entering.{HasEntered, HasMentioned};
 
-use crate::FlatFault;
 use crate::known_names::KnownNames;
 use crate::scope::Scope;
+use crate::stop::Stop;
 use crate::walker::Walker;
 use net_blif::{Design, Item, ItemList, TokenSlice, sides, text_of};
 use std::alloc::AllocError;
@@ -95,7 +95,7 @@ impl<'a> Walker<'a> {
         number: u64,
         name: &[u8],
         connections: &TokenSlice<'a>,
-    ) -> Result<Option<(u32, Scope)>, FlatFault>
+    ) -> Result<Option<(u32, Scope)>, Stop>
         requires name { IsToken name.now }
         requires connections { All IsToken connections.now }
         requires sides { IsTrue (list_all is_connection connections.now) }
@@ -124,7 +124,7 @@ impl<'a> Walker<'a> {
         name: &[u8],
         connections: &TokenSlice<'a>,
         depth: u32,
-    ) -> Result<(), FlatFault>
+    ) -> Result<(), Stop>
         requires name { IsToken name.now }
         requires connections { All IsToken connections.now }
         requires sides { IsTrue (list_all is_connection connections.now) }
@@ -152,7 +152,7 @@ impl<'a> Walker<'a> {
         number: u64,
         item: &Item<'a>,
         depth: u32,
-    ) -> Result<(), FlatFault>
+    ) -> Result<(), Stop>
         requires sound { IsSoundItem item.now }
         requires inside { AreInside (state_of self.old) }
         ensures made { OnOk result (local_line (local_within depth design.now) design.now (state_of self.old) number item.now ≡ Ok (state_of self.new)) }
@@ -184,7 +184,7 @@ impl<'a> Walker<'a> {
 
     /// Walks the lines of a model, through at most so many models one inside another.
     #[cycle(walk)]
-    pub fn walk(&mut self, design: &'a Design, model: u32, depth: u32) -> Result<(), FlatFault>
+    pub fn walk(&mut self, design: &'a Design, model: u32, depth: u32) -> Result<(), Stop>
         requires { AreInside (state_of self.old) }
         ensures made { OnOk result (local_within depth design.now (state_of self.old) model ≡ Ok (state_of self.new)) }
         ensures inside { OnOk result (AreInside (state_of self.new)) }

@@ -9,11 +9,11 @@ ghost use Rattle.net_flat.specs.private.KnownNumbers.{known_in, HasPlace};
 ghost use Rattle.net_flat.specs.private.LocalWalk.{AreInside, InTop, Inside, IsFaultOf, found, local_step, state_with};
 ghost use Rattle.net_flat.specs.private.WalkerState.{state_of};
 
-use crate::FlatFault;
 use crate::kept::Kept;
 use crate::known_names::KnownNames;
 use crate::namer::Namer;
 use crate::scope::Scope;
+use crate::stop::Stop;
 use net_blif::text_of;
 use net_core::{NetFault, NetMaker};
 use std::alloc::Global;
@@ -30,16 +30,6 @@ pub struct Walker<'a> {
     pub scope: Scope,
     pub inputs: Vec<u32>,
     pub kept: Kept,
-}
-
-/// A fault of nets, or out of memory.
-pub fn fault_of(fault: NetFault) -> FlatFault
-    ensures { ((fault ≡ NetFault.OutOfMemory) × (result ≡ FlatFault.OutOfMemory)) ⊎ (¬ (fault ≡ NetFault.OutOfMemory) × (result ≡ FlatFault.Net fault)) }
-{
-    match fault {
-        NetFault::OutOfMemory => FlatFault::OutOfMemory,
-        fault => FlatFault::Net(fault),
-    }
 }
 
 // The number of a new net that no name finds. It is called by the prefix and the name, which stands behind it for a while.
@@ -65,7 +55,7 @@ fn add_inside(
     prefix: &mut String,
     numbers: &mut KnownNames,
     name: &[u8],
-) -> Result<u32, FlatFault>
+) -> Result<u32, Stop>
     requires name { IsToken name.now }
     requires place { HasPlace numbers.old name.now }
     requires new { known_in numbers.old name.now ≡ None }
@@ -76,7 +66,7 @@ fn add_inside(
 {
     let number = match fresh_behind(maker, prefix, name) {
         Ok(number) => number,
-        Err(fault) => return Err(fault_of(fault)),
+        Err(fault) => return Err(Stop::of_net(fault)),
     };
     numbers.insert(name, number)?;
     Ok(number)
@@ -88,7 +78,7 @@ fn mention_inside(
     prefix: &mut String,
     numbers: &mut KnownNames,
     name: &[u8],
-) -> Result<u32, FlatFault>
+) -> Result<u32, Stop>
     requires { IsToken name.now }
     ensures prefix { string_bytes prefix.new ≡ string_bytes prefix.old }
     ensures number { IfOk result (λ n. known_in numbers.new name.now ≡ Some n) }
@@ -129,7 +119,7 @@ impl<'a> Walker<'a> {
     }
 
     /// The number of the net of a name, which is made if it is new.
-    pub fn mention(&mut self, name: &'a [u8]) -> Result<u32, FlatFault>
+    pub fn mention(&mut self, name: &'a [u8]) -> Result<u32, Stop>
         requires name { IsToken name.now }
         requires inside { AreInside (state_of self.old) }
         ensures number { IfOk result (λ n. found (state_of self.new) name.now ≡ Some n) }

@@ -34,4 +34,4 @@ pub returns-in-Ok-clause-inside : goal.returns-in-Ok-clause-inside
 returns-in-Ok-clause-inside c = inside_as (state_of c.mention.new.self) c.gate.new.self (ap (λ (n : NetList). n.labels) c.in-Ok.ensures.made) c.in_ok-number.ensures.inside
 
 pub returns-in-Err-clause-fault : goal.returns-in-Err-clause-fault
-returns-in-Err-clause-fault c = gate_refused (state_of c.args.self.now) (state_of c.mention_all.new.self) (state_of c.mention.new.self) c.args.inputs.now c.args.out.now c.args.table c.in_ok-mention_all.ensures.made c.in_ok-number.ensures.made c.in-Err.fault c.fault_of.result c.fault_of.ensures c.in-Err.ensures.only (λ e. c.in-Err.ensures.full (ap Err e))
+returns-in-Err-clause-fault c = gate_refused (state_of c.args.self.now) (state_of c.mention_all.new.self) (state_of c.mention.new.self) c.args.inputs.now c.args.out.now c.args.table c.in_ok-mention_all.ensures.made c.in_ok-number.ensures.made c.in-Err.fault c.of_gate.result c.of_gate.ensures c.in-Err.ensures.only (λ e. c.in-Err.ensures.full (ap Err e))

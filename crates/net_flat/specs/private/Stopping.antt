@@ -1,0 +1,19 @@
+-- The fault that ends a walk early. Source: this project's own.
+use Rattle.std.specs.Prelude.{◌≡◌, ◌⊎◌}
+use Rattle.net_core.specs.declared.fault.NetFault.{NetFault}
+use Rattle.net_core.specs.declared.fault.NetFault.TheVariants as nets
+use Rattle.net_flat.specs.declared.flat_fault.FlatFault.{FlatFault}
+use Rattle.net_flat.specs.declared.flat_fault.FlatFault.TheVariants as faults
+use Rattle.net_flat.specs.declared.stop.Cause.{Cause}
+use Rattle.net_flat.specs.declared.stop.Cause.TheVariants as causes
+
+-- what a cause is as a fault of flattening
+abbrev pub fault_in : Cause → FlatFault
+fault_in causes.TooManyNets = faults.Net nets.TooManyNets
+fault_in causes.TooManyGates = faults.Net nets.TooManyGates
+fault_in causes.TooManyInstances = faults.TooManyInstances
+fault_in causes.OutOfMemory = faults.OutOfMemory
+
+-- a fault of nets as one of flattening: want of memory is one of its own
+abbrev pub IsFaultBy : NetFault → FlatFault → Type 0
+IsFaultBy refusal fault = ((refusal ≡ nets.OutOfMemory) × (fault ≡ faults.OutOfMemory)) ⊎ (¬ (refusal ≡ nets.OutOfMemory) × (fault ≡ faults.Net refusal))
