@@ -9,7 +9,7 @@ use Rattle.std.proofs.lemmas.Slice.Eq.{bytes_eq-Decides}
 use Rattle.std.proofs.Math.Seq.{take-suc}
 use Rattle.outcome.specs.Steps.{on_value}
 use Rattle.net_core.specs.NetList.{NetList, nets, number_of, with_gate, with_latch, with_label}
-use Rattle.net_core.specs.Inside.{HasNoMoreGates}
+use Rattle.net_core.specs.Inside.{HasNoMoreGates, IsFull}
 use Rattle.net_core.specs.declared.latch.Start.{Start}
 use Rattle.net_core.specs.declared.fault.NetFault.{NetFault}
 use Rattle.net_core.specs.declared.fault.NetFault.TheVariants as faults
@@ -18,7 +18,7 @@ use Rattle.net_blif.specs.Statement.{Token}
 use Rattle.net_blif.specs.Table.{with_number, Numbers}
 use Rattle.net_flat.specs.Steps.{gate_steps, latch_steps, Step, Mention, Gate, Latch}
 use Rattle.net_flat.specs.private.LocalWalk.{found, found_by, local_gate, local_latch, local_step, local_walked, local_with, net_with, number_in, on_net, state_with, with_new, AreInside, HasEach, InTop, Inside, IsFaultOf, Local, State}
-use Rattle.net_flat.specs.private.Stopping.{IsFaultBy}
+use Rattle.net_flat.specs.private.Stopping.{IsFaultBy, IsFaultOfNet}
 use Rattle.net_flat.specs.declared.flat_fault.FlatFault.{FlatFault}
 use Rattle.net_flat.specs.declared.flat_fault.FlatFault.TheVariants.{Net}
 use Rattle.net_flat.proofs.SameLemmas.{walked_append}
@@ -175,6 +175,20 @@ found_inside s name k is at = is name k at
 
 pub numbers_inside : (s : State) (names : List Token) → AreInside s → HasEach s names → All (λ n. n < nets s.net) (map (number_in s) names)
 numbers_inside s names is each = All-map (λ n. n < nets s.net) (number_in s) names (λ i d less. let h = each i d less in let same : number_in s (get_or names i d) ≡ h.0 = ap (λ (n : Option ℕ). unwrap_or n 0) h.1 in rw same (is (get_or names i d) h.0 h.1))
+
+-- a fault of the maker where it makes no net
+pub net_refused : (net : NetList) (refusal : NetFault) (fault : FlatFault) → IsFaultBy refusal fault → (refusal ≡ faults.TooManyNets) ⊎ (refusal ≡ faults.OutOfMemory) → (refusal ≡ faults.TooManyNets → IsFull net) → IsFaultOfNet net fault
+net_refused net refusal fault (inl (wanting, is)) only full = inl is
+net_refused net refusal fault (inr (other, is)) (inr wanting) full = absurd (other wanting)
+net_refused net refusal fault (inr (other, is)) (inl many) full = inr (full many, is ∙ ap Net many)
+
+-- a new name in an instance, where no net is made for it
+pub new_refused : (net : NetList) (i : ℕ) (prefix : List ℕ) (numbers : Numbers) (name : Token) (fault : FlatFault) → numbers name ≡ None → IsFaultOfNet net fault → IsFaultOf (local_step (state_with net i (Inside prefix numbers)) (Mention name)) fault
+new_refused net i prefix numbers name fault new (inl is) = inl is
+new_refused net i prefix numbers name fault new (inr (full, is)) =
+    let many : nat_le (2 ^ 20) (nets net) ≡ true = le-leb (2 ^ 20) (nets net) full in
+    let refused : local_step (state_with net i (Inside prefix numbers)) (Mention name) ≡ Err (Net faults.TooManyNets) = rw (new, many) refl in
+    inr (refused ∙ ap Err (sym is))
 
 -- what was inserted is found
 pub inserted : (numbers more : Numbers) (name : Token) (n : ℕ) → more ≡ with_number numbers name n → more name ≡ Some n

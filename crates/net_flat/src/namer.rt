@@ -5,6 +5,7 @@ ghost use Rattle.net_core.specs.NetList.{empty, nets, number_of, with_gate, with
 ghost use Rattle.net_blif.specs.Statement.{IsToken};
 ghost use Rattle.net_flat.specs.Steps.{Mention};
 ghost use Rattle.net_flat.specs.private.LocalWalk.{InTop, IsFaultOf, local_step, state_with};
+ghost use Rattle.net_flat.specs.private.Stopping.{IsFaultOfNet};
 
 use crate::stop::Stop;
 use net_blif::text_of;
@@ -41,6 +42,19 @@ fn mention_in(maker: &mut NetMaker, name: &str) -> Result<u32, Stop>
     ensures fault { (i : ℕ) → IfErr result (IsFaultOf (local_step (state_with maker.old i InTop) (Mention name.now))) }
 {
     match maker.net(name) {
+        Ok(number) => Ok(number),
+        Err(fault) => Err(Stop::of_net(fault)),
+    }
+}
+
+// The number of a new net that no name finds.
+fn fresh_in(maker: &mut NetMaker, label: &str) -> Result<u32, Stop>
+    ensures number { IfOk result (λ n. n ≡ nets maker.old) }
+    ensures made { OnOk result (maker.new ≡ with_label maker.old label.now false) }
+    ensures room { OnOk result (IsFull maker.old → ⊥) }
+    ensures fault { IfErr result (IsFaultOfNet maker.old) }
+{
+    match maker.fresh(label) {
         Ok(number) => Ok(number),
         Err(fault) => Err(Stop::of_net(fault)),
     }
@@ -119,15 +133,14 @@ impl<'a> Namer<'a> {
     }
 
     /// The number of a new net that no name finds; the label is for messages.
-    pub fn fresh(&mut self, label: &str) -> Result<u32, NetFault>
+    pub fn fresh(&mut self, label: &str) -> Result<u32, Stop>
         ensures number { IfOk result (λ n. n ≡ nets self.old) }
         ensures made { OnOk result (self.new ≡ with_label self.old label.now false) }
         ensures room { OnOk result (IsFull self.old → ⊥) }
-        ensures full { IsErrOf result NetFault.TooManyNets → IsFull self.old }
-        ensures only { IfErr result (λ fault. (fault ≡ NetFault.TooManyNets) ⊎ (fault ≡ NetFault.OutOfMemory)) }
+        ensures fault { IfErr result (IsFaultOfNet self.old) }
     {
         self.number = None;
-        self.maker.fresh(label)
+        fresh_in(&mut self.maker, label)
     }
 
     /// Makes a net that there is a primary input, after those before.

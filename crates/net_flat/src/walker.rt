@@ -1,5 +1,5 @@
 //! The walk over the lines of models.
-ghost use Rattle.std.specs.Prelude.{◌≡◌, ◌⊎◌, ◌++◌, ℕ, Ok, Some, None, IfOk, IfErr, IsErrOf, OnOk, false, string_bytes};
+ghost use Rattle.std.specs.Prelude.{◌≡◌, ◌++◌, ℕ, Ok, Some, None, IfOk, IfErr, OnOk, false, string_bytes};
 ghost use Rattle.text_core.specs.Lines.{IsPrinting};
 ghost use Rattle.net_core.specs.Inside.{IsFull};
 ghost use Rattle.net_core.specs.NetList.{empty, nets, with_label};
@@ -7,6 +7,7 @@ ghost use Rattle.net_blif.specs.Statement.{IsToken};
 ghost use Rattle.net_flat.specs.Steps.{Mention};
 ghost use Rattle.net_flat.specs.private.KnownNumbers.{known_in, HasPlace};
 ghost use Rattle.net_flat.specs.private.LocalWalk.{AreInside, InTop, Inside, IsFaultOf, found, local_step, state_with};
+ghost use Rattle.net_flat.specs.private.Stopping.{IsFaultOfNet};
 ghost use Rattle.net_flat.specs.private.WalkerState.{state_of};
 
 use crate::kept::Kept;
@@ -15,7 +16,7 @@ use crate::namer::Namer;
 use crate::scope::Scope;
 use crate::stop::Stop;
 use net_blif::text_of;
-use net_core::{NetFault, NetMaker};
+use net_core::NetMaker;
 use std::alloc::Global;
 
 /// A walk on its way: the net list so far, how many instances were entered, and what is known of names.
@@ -33,14 +34,13 @@ pub struct Walker<'a> {
 }
 
 // The number of a new net that no name finds. It is called by the prefix and the name, which stands behind it for a while.
-fn fresh_behind(maker: &mut Namer<'_>, prefix: &mut String, name: &[u8]) -> Result<u32, NetFault>
+fn fresh_behind(maker: &mut Namer<'_>, prefix: &mut String, name: &[u8]) -> Result<u32, Stop>
     requires { IsPrinting name.now }
     ensures prefix { string_bytes prefix.new ≡ string_bytes prefix.old }
     ensures number { IfOk result (λ n. n ≡ nets maker.old) }
     ensures made { OnOk result (maker.new ≡ with_label maker.old (string_bytes prefix.old ++ name.now) false) }
     ensures room { OnOk result (IsFull maker.old → ⊥) }
-    ensures full { IsErrOf result NetFault.TooManyNets → IsFull maker.old }
-    ensures only { IfErr result (λ fault. (fault ≡ NetFault.TooManyNets) ⊎ (fault ≡ NetFault.OutOfMemory)) }
+    ensures fault { IfErr result (IsFaultOfNet maker.old) }
 {
     let size = prefix.len();
     prefix.push_str(text_of(name))?;
@@ -66,7 +66,7 @@ fn add_inside(
 {
     let number = match fresh_behind(maker, prefix, name) {
         Ok(number) => number,
-        Err(fault) => return Err(Stop::of_net(fault)),
+        Err(stop) => return Err(stop),
     };
     numbers.insert(name, number)?;
     Ok(number)

@@ -1,5 +1,7 @@
 -- The fault that ends a walk early. Source: this project's own.
 use Rattle.std.specs.Prelude.{◌≡◌, ◌⊎◌}
+use Rattle.net_core.specs.NetList.{NetList}
+use Rattle.net_core.specs.Inside.{IsFull}
 use Rattle.net_core.specs.declared.fault.NetFault.{NetFault}
 use Rattle.net_core.specs.declared.fault.NetFault.TheVariants as nets
 use Rattle.net_flat.specs.declared.flat_fault.FlatFault.{FlatFault}
@@ -17,3 +19,7 @@ fault_in causes.OutOfMemory = faults.OutOfMemory
 -- a fault of nets as one of flattening: want of memory is one of its own
 abbrev pub IsFaultBy : NetFault → FlatFault → Type 0
 IsFaultBy refusal fault = ((refusal ≡ nets.OutOfMemory) × (fault ≡ faults.OutOfMemory)) ⊎ (¬ (refusal ≡ nets.OutOfMemory) × (fault ≡ faults.Net refusal))
+
+-- why there is no new net: want of memory, or it would be the 1,048,577th
+abbrev pub IsFaultOfNet : NetList → FlatFault → Type 0
+IsFaultOfNet net fault = (fault ≡ faults.OutOfMemory) ⊎ (IsFull net × (fault ≡ faults.Net nets.TooManyNets))
