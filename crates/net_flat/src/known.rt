@@ -69,7 +69,8 @@ impl KnownNames {
         number_of(mark, self.walk)
     }
 
-    /// Gives the name that was mentioned last this number.
+    /// Gives the name that was mentioned last this number. Always inlined, as what it calls.
+    #[inline(always)]
     pub fn insert(&mut self, name: &[u8], number: u32) -> Result<(), AllocError>
         requires name { IsPrinting name.now }
         requires place { HasPlace self.old name.now }

@@ -60,7 +60,25 @@ fn if_stands(marks: &IndexMap<String, Mark, KeyedHash>, place: usize, name: &[u8
     }
 }
 
-/// Where a name stands, and its mark. It is looked for where the order says first.
+// Where a name stands that does not stand where the order says, and its mark. Never inlined: few names come here.
+#[inline(never)]
+fn look_up(
+    marks: &IndexMap<String, Mark, KeyedHash>,
+    order: &mut Order,
+    name: &[u8],
+) -> (Option<usize>, Option<Mark>)
+    requires { IsPrinting name.now }
+    ensures place { IfSome result.0 (λ p. StandsAt marks.now p name.now) }
+    ensures mark { result.1 ≡ get_by_text marks.now name.now }
+{
+    let (place, mark) = search(marks, text_of(name));
+    order.put(place);
+    (if_stands(marks, place, name), mark)
+}
+
+/// Where a name stands, and its mark. It is looked for where the order says first. Always inlined, since a call would hand
+/// the place and the mark back through memory.
+#[inline(always)]
 pub fn seek(
     marks: &IndexMap<String, Mark, KeyedHash>,
     order: &mut Order,
@@ -75,9 +93,7 @@ pub fn seek(
         order.pass();
         return (Some(hint), Some(mark));
     }
-    let (place, mark) = search(marks, text_of(name));
-    order.put(place);
-    (if_stands(marks, place, name), mark)
+    look_up(marks, order, name)
 }
 
 // Gives the name that stands at this place a mark.
@@ -89,7 +105,8 @@ fn write_at(marks: &mut IndexMap<String, Mark, KeyedHash>, place: usize, name: &
     *old = mark;
 }
 
-// Gives a name a mark, wherever it stands.
+// Gives a name a mark, wherever it stands. Never inlined: a name comes here once.
+#[inline(never)]
 fn write(
     alloc: Global,
     marks: &mut IndexMap<String, Mark, KeyedHash>,
@@ -104,7 +121,8 @@ fn write(
     Ok(())
 }
 
-/// Gives a name a mark. It stands at this place, if there is one.
+/// Gives a name a mark. It stands at this place, if there is one. Always inlined, since a call costs more than the mark.
+#[inline(always)]
 pub fn put(
     alloc: Global,
     marks: &mut IndexMap<String, Mark, KeyedHash>,
