@@ -3,6 +3,7 @@ pub mod TiedLemmas
 pub mod SameLemmas
 pub mod StateLemmas
 pub mod MarkLemmas
+pub mod EndLemmas
 pub mod LabelLemmas
 pub mod KeepLemmas
 pub mod EnterLemmas

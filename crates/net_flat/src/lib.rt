@@ -2,6 +2,7 @@
 //! an instance's model is a part of the net of the whole.
 #![tactic(auto)]
 
+mod equal_names;
 mod flat;
 mod flat_fault;
 mod kept;

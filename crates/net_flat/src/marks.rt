@@ -4,8 +4,8 @@ ghost use Rattle.indexmap.specs.IndexMap.{get_by_text};
 ghost use Rattle.text_core.specs.Lines.{IsPrinting};
 ghost use Rattle.net_flat.specs.private.Marking.{StandsAt, with_mark};
 
+use crate::equal_names::is_same;
 use crate::mark::Mark;
-use crate::namer::is_same;
 use crate::order::Order;
 use indexmap::IndexMap;
 use net_blif::text_of;

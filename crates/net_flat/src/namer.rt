@@ -1,5 +1,5 @@
 //! A net list in the making and the name that was mentioned last.
-ghost use Rattle.std.specs.Prelude.{◌≡◌, ◌⊎◌, ◌<◌, ◌≤◌, ◌^◌, ◌++◌, ◌∷◌, [], ℕ, Ok, Some, All, IfOk, IfErr, IfSome, OnOk, IsErrOf, IsTrue, ◌↔◌, length, false};
+ghost use Rattle.std.specs.Prelude.{◌≡◌, ◌⊎◌, ◌<◌, ◌≤◌, ◌^◌, ◌++◌, ◌∷◌, [], ℕ, Ok, Some, All, IfOk, IfErr, IfSome, OnOk, IsErrOf, length, false};
 ghost use Rattle.net_core.specs.Inside.{HasNoMoreGates, IsFull, IsNetName};
 ghost use Rattle.net_core.specs.NetList.{empty, nets, number_of, with_gate, with_label, with_latch};
 ghost use Rattle.net_blif.specs.Statement.{IsToken};
@@ -7,6 +7,7 @@ ghost use Rattle.net_flat.specs.Steps.{Mention};
 ghost use Rattle.net_flat.specs.private.LocalWalk.{InTop, IsFaultOf, local_step, state_with};
 ghost use Rattle.net_flat.specs.private.Stopping.{IsFaultOfNet};
 
+use crate::equal_names::is_same;
 use crate::stop::Stop;
 use net_blif::text_of;
 use net_core::{NetFault, NetMaker, Start};
@@ -58,13 +59,6 @@ fn fresh_in(maker: &mut NetMaker, label: &str) -> Result<u32, Stop>
         Ok(number) => Ok(number),
         Err(fault) => Err(Stop::of_net(fault)),
     }
-}
-
-/// Whether two names are the same.
-pub fn is_same(name: &[u8], other: &[u8]) -> bool
-    ensures { IsTrue result ↔ (name.now ≡ other.now) }
-{
-    name == other
 }
 
 impl<'a> Namer<'a> {
