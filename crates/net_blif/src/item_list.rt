@@ -150,7 +150,8 @@ impl ItemList {
         Ok(())
     }
 
-    /// A gate at the end.
+    /// A gate at the end. Always inlined, since most items are gates and each of them would make the call.
+    #[inline(always)]
     pub fn push_gate(
         &mut self,
         line: u32,
