@@ -8,6 +8,7 @@ ghost use Rattle.net_blif.specs.Top.{is_instance};
 ghost use Rattle.net_blif.specs.private.Bare.{is_instance_place};
 
 use crate::item::Item;
+use crate::pushes::push_one;
 use crate::token::Token;
 use crate::token_list::TokenList;
 use net_core::Start;
@@ -169,12 +170,15 @@ impl ItemList {
         self.tokens.push_all(inputs)?;
         let end = number(self.tokens.len())?;
         self.tokens.push(out)?;
-        self.places.push(Place::Gate {
-            line,
-            first,
-            end,
-            table,
-        })?;
+        push_one(
+            &mut self.places,
+            Place::Gate {
+                line,
+                first,
+                end,
+                table,
+            },
+        )?;
         Ok(())
     }
 

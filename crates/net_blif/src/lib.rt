@@ -18,6 +18,7 @@ mod lines;
 mod model_list;
 mod once;
 mod open_model;
+mod pushes;
 mod read;
 mod reader;
 mod repeats;

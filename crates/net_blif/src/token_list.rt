@@ -1,6 +1,7 @@
 //! Tokens, one after another in one text.
 ghost use Rattle.std.specs.Prelude.{◌≡◌, ◌≤◌, ◌<◌, ◌+◌, ℕ, List, [], ◌∷◌, ◌++◌, Some, length, slice_get, slice_index_or, slice_range, IfOk, OnOk, OnErr};
 
+use crate::pushes::push_one;
 use crate::token::Token;
 use std::alloc::{AllocError, Global};
 use std::marker::Model;
@@ -124,7 +125,7 @@ impl TokenList {
     {
         let span = span_of(self.text.len(), token.len())?;
         self.text.extend_from_slice(token)?;
-        self.spans.push(span)?;
+        push_one(&mut self.spans, span)?;
         Ok(())
     }
 
