@@ -1,4 +1,6 @@
--- Lines with each port once, one after another. Source: this project's own.
+-- The lines of a model with each port once, as far as its lines were gone through: the ports that stood so far, each of
+-- which has the number 0, and the lines that stand for those so far, where a new port has a line of `Outputs` of its own and
+-- an old one has none. Behind the last line these are `ports_once` of the lines of the model. Source: this project's own.
 use Rattle.std.specs.Prelude.{List, [], ◌∷◌, ◌++◌, is_some, if◌then◌else◌}
 use Rattle.net_blif.specs.Statement.{Token}
 use Rattle.net_blif.specs.Table.{no_numbers, numbers_in, with_number, Numbers}
@@ -7,7 +9,7 @@ use Rattle.net_blif.specs.declared.item.Item.{Item}
 use Rattle.net_blif.specs.declared.item.Item.TheVariants.{Inputs, Outputs}
 use Rattle.net_blif.specs.declared.once.Once.{Once}
 
--- the names of ports so far, and the lines
+-- the ports so far, and the lines that stand for those so far
 pub record OnceValue : Type 0 where
   pub stood : Numbers
   pub lines : List Item
