@@ -112,11 +112,8 @@ fn line_in_place<'a>(
             return Ok(None);
         }
         push_word(words, front.word)?;
-        if let Some(after) = after_end(front.byte, front.rest) {
-            return Ok(Some(after));
-        }
         if !is_blank(front.byte) {
-            return Ok(None);
+            return Ok(after_end(front.byte, front.rest));
         }
         rest = front.rest;
     }
