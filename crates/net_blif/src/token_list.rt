@@ -155,11 +155,14 @@ fn span_of(start: usize, size: usize) -> Result<Span, AllocError>
     ensures start { IfOk result (λ span. span.start ≡ start) }
     ensures end { IfOk result (λ span. span.end ≡ start + size) }
 {
-    let (Ok(first), Ok(size)) = (u32::try_from(start), u32::try_from(size)) else {
+    let Some(end) = start.checked_add(size) else {
         return Err(AllocError);
     };
-    match first.checked_add(size) {
-        Some(end) => Ok(Span { start: first, end }),
-        None => Err(AllocError),
+    match u32::try_from(end) {
+        Ok(end) => Ok(Span {
+            start: start as u32,
+            end,
+        }),
+        Err(_) => Err(AllocError),
     }
 }
