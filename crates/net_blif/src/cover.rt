@@ -1,10 +1,10 @@
 //! Covers and their tables.
-ghost use Rattle.std.specs.Prelude.{◌≡◌, ◌==◌, ◌<◌, ◌≤◌, ◌+◌, ◌*◌, ◌^◌, ◌++◌, ◌∷◌, [], Some, length, IsTrue, IfSome, OnOk, OnErr, if◌then◌else◌};
+ghost use Rattle.std.specs.Prelude.{◌≡◌, ◌<◌, ◌≤◌, ◌+◌, ◌^◌, ◌++◌, ◌∷◌, [], Some, length, IsTrue, IfSome, OnOk, OnErr, if◌then◌else◌};
 ghost use Rattle.net_blif.specs.Item.{IsSoundCover};
 ghost use Rattle.net_blif.specs.private.FirstLine.{RowStandsAlone};
-ghost use Rattle.net_blif.specs.private.Rows.{unless};
 ghost use Rattle.net_blif.specs.Cover.{fits as row_fits, cell_fits as fits_cell, fits_some as some_fits, gate_bit as bit_of_gate, agrees as may_agree, number_of_bits, begun, gate_of, takes_row, with_row};
 
+use crate::cells::cells_bits;
 use crate::item_list::ItemList;
 use crate::rows::{PlacedRow, row_in_place};
 use crate::token::Token;
@@ -200,35 +200,6 @@ fn all_ones(inputs: u32) -> u64
     }
 }
 
-// The bits of twice as many indices, of which the upper half has a 1 where the next cell is asked.
-fn doubled(bits: u64, width: u32, cell: u8) -> u64
-    requires width { width ≤ 32 }
-    requires bits { bits < 2 ^ width }
-    ensures { result ≡ unless (cell == 48) bits * 2 ^ width + unless (cell == 49) bits }
-{
-    if cell == b'0' {
-        bits
-    } else if cell == b'1' {
-        bits << width
-    } else {
-        (bits << width) + bits
-    }
-}
-
-// The bits of the indices that a row fits, with a cell for each input.
-fn cell_by_cell(pattern: &[u8]) -> u64
-    requires { length pattern.now ≤ 6 }
-    ensures { result ≡ number_of_bits (row_fits pattern.now) (2 ^ length pattern.now) }
-{
-    let mut bits = 1;
-    let mut width = 1;
-    for cell in pattern {
-        bits = doubled(bits, width, *cell);
-        width *= 2;
-    }
-    bits
-}
-
 // The bits of the indices that a row of any length fits. Out of line, since rows of covers have a cell for each input.
 #[cold]
 #[inline(never)]
@@ -243,13 +214,14 @@ fn index_by_index(inputs: u32, pattern: &[u8]) -> u64
     bits
 }
 
-// The bits of the indices that a row fits.
+// The bits of the indices that a row fits. Always inlined, as `cells_bits` is.
+#[inline(always)]
 fn row_bits(inputs: u32, pattern: &[u8]) -> u64
     requires { inputs ≤ 6 }
     ensures { result ≡ number_of_bits (row_fits pattern.now) (2 ^ inputs) }
 {
     if pattern.len() == inputs as usize {
-        cell_by_cell(pattern)
+        cells_bits(pattern)
     } else {
         index_by_index(inputs, pattern)
     }

@@ -2,6 +2,7 @@
 #![tactic(auto)]
 
 mod bodies;
+mod cells;
 mod chains;
 mod connection;
 mod cover;

@@ -1,6 +1,6 @@
 use Rattle.std.proofs.Common.{◌≡◌, ◌^◌, take}
 use Rattle.net_blif.specs.Cover.{fits, number_of_bits}
-use Rattle.net_blif.proofs.cover.cell_by_cell.Given as goal
+use Rattle.net_blif.proofs.cells.cell_by_cell.Given as goal
 
 -- the bits of the cells so far
 abbrev pub invariant-loop-cell : goal.invariant-loop-cell
