@@ -18,6 +18,21 @@ struct Front<'a> {
     rest: &'a [u8],
 }
 
+// The front of a text that begins with so many bytes from `$` to `~` and has a byte behind them.
+fn front_at(text: &[u8], size: usize) -> Front<'_>
+    requires inside { size < length text.now }
+    requires begins { (k : ℕ) → k < size → IsWordByte (slice_index text.now k) }
+    ensures is { text.now ≡ result.word.now ++ result.byte ∷ result.rest.now }
+    ensures word { All IsWordByte result.word.now }
+    ensures shorter { length result.rest.now < length text.now }
+{
+    Front {
+        word: &text[..size],
+        byte: text[size],
+        rest: &text[size + 1..],
+    }
+}
+
 // The front of a text, which begins with at least so many bytes from `$` to `~`; none where all its bytes are such.
 fn front_from(text: &[u8], start: usize) -> Option<Front<'_>>
     requires start { start ≤ length text.now }
@@ -29,11 +44,7 @@ fn front_from(text: &[u8], start: usize) -> Option<Front<'_>>
     for i in start..text.len() {
         let byte = text[i];
         if byte < b'$' || byte > b'~' {
-            return Some(Front {
-                word: &text[..i],
-                byte,
-                rest: &text[i + 1..],
-            });
+            return Some(front_at(text, i));
         }
     }
     None
@@ -45,7 +56,11 @@ fn front_of(text: &[u8]) -> Option<Front<'_>>
     ensures word { IfSome result (λ f. All IsWordByte f.word.now) }
     ensures shorter { IfSome result (λ f. length f.rest.now < length text.now) }
 {
-    front_from(text, word_run(text))
+    let (run, is_whole) = word_run(text);
+    if is_whole {
+        return Some(front_at(text, run));
+    }
+    front_from(text, run)
 }
 
 fn is_blank(byte: u8) -> bool

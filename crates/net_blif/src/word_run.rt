@@ -1,5 +1,5 @@
 //! The bytes of a word, sixteen at a time.
-ghost use Rattle.std.specs.Prelude.{◌≡◌, ◌<◌, ◌≤◌, ◌==◌, ℕ, length, slice_index, if◌then◌else◌};
+ghost use Rattle.std.specs.Prelude.{◌≡◌, ◌<◌, ◌≤◌, ◌==◌, ℕ, IsTrue, length, slice_index, if◌then◌else◌};
 ghost use Rattle.std.specs.Int.{w64, trailing_zeros};
 ghost use Rattle.net_blif.specs.private.FirstLine.{IsWordByte};
 
@@ -29,13 +29,17 @@ fn run_of(text: &[u8]) -> usize
     lowest(others.to_bitmask())
 }
 
-/// With how many bytes from `$` to `~` a text begins, as far as sixteen bytes at once tell: there may be more.
-pub fn word_run(text: &[u8]) -> usize
-    ensures within { result ≤ length text.now }
-    ensures word { (k : ℕ) → k < result → IsWordByte (slice_index text.now k) }
+/// With how many bytes from `$` to `~` a text begins, and whether these are all: there may be more where sixteen bytes at once
+/// do not tell. Always inlined, since a call costs as much as a short word.
+#[inline(always)]
+pub fn word_run(text: &[u8]) -> (usize, bool)
+    ensures within { result.0 ≤ length text.now }
+    ensures word { (k : ℕ) → k < result.0 → IsWordByte (slice_index text.now k) }
+    ensures inside { IsTrue result.1 → result.0 < length text.now }
 {
     if text.len() < LANES {
-        return 0;
+        return (0, false);
     }
-    run_of(text)
+    let run = run_of(text);
+    (run, run < LANES)
 }
