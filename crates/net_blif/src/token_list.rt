@@ -117,14 +117,16 @@ impl TokenList {
         self.all().get(place)
     }
 
-    /// One more token at the end. Always inlined, since a call costs as much as a short token.
+    /// One more token at the end. Always inlined, since a call costs as much as a short token. On an error the text may be
+    /// longer, by bytes behind those of the last token.
     #[inline(always)]
     pub fn push(&mut self, token: &[u8]) -> Result<(), AllocError>
         ensures made { OnOk result (self.new ≡ self.old ++ token.now ∷ []) }
         ensures unchanged { OnErr result (self.new ≡ self.old) }
     {
-        let span = span_of(self.text.len(), token.len())?;
+        let start = self.text.len();
         self.text.extend_from_slice(token)?;
+        let span = span_of(start, token.len())?;
         push_one(&mut self.spans, span)?;
         Ok(())
     }
