@@ -52,11 +52,24 @@ pub fn is_dotted(word: &[u8]) -> bool
     }
 }
 
-/// Whether each byte of a word is a cell of a row.
+// Whether a byte is a cell of a row.
+fn is_cell(byte: u8) -> bool
+    ensures { result ≡ cell_is byte }
+{
+    byte == b'0' || byte == b'1' || byte == b'-'
+}
+
+/// Whether each byte of a word is a cell of a row. Most rows have one or two, which need no loop. Always inlined, since a call
+/// costs as much as such a row.
+#[inline(always)]
 pub fn is_pattern(word: &[u8]) -> bool
     ensures { result ≡ list_all cell_is word.now }
 {
-    word.iter().all(|b| *b == b'0' || *b == b'1' || *b == b'-')
+    match word {
+        [cell] => is_cell(*cell),
+        [first, second] => is_cell(*first) && is_cell(*second),
+        _ => word.iter().all(|b| is_cell(*b)),
+    }
 }
 
 // Whether a token is the kind of a latch's clock.
