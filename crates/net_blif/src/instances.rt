@@ -35,10 +35,9 @@ fn check_connection(
     if formals.get(name).is_none() {
         return Err(BlifFault::NoSuchFormal { line });
     }
-    if connected.get(name).is_some() {
+    if connected.put(name, 0)? {
         return Err(BlifFault::FormalTwice { line });
     }
-    connected.insert(name, 0)?;
     Ok(())
 }
 

@@ -1,5 +1,5 @@
 //! Numbers of names.
-ghost use Rattle.std.specs.Prelude.{◌≡◌, OnOk};
+ghost use Rattle.std.specs.Prelude.{◌≡◌, is_some, IfOk, OnOk};
 ghost use Rattle.net_blif.specs.Table.{no_numbers, numbers_in, with_number as with_one};
 
 use indexmap::IndexMap;
@@ -43,8 +43,17 @@ impl Table {
     pub fn insert(&mut self, name: &str, number: u32) -> Result<(), AllocError>
         ensures { OnOk result (numbers_in self.new ≡ with_one (numbers_in self.old) name.now number) }
     {
-        let key = String::from_str(self.alloc, name)?;
-        self.numbers.insert(key, number)?;
+        self.put(name, number)?;
         Ok(())
+    }
+
+    /// Gives a name this number, and tells whether it had one. The name is hashed once.
+    pub(crate) fn put(&mut self, name: &str, number: u32) -> Result<bool, AllocError>
+        ensures made { OnOk result (numbers_in self.new ≡ with_one (numbers_in self.old) name.now number) }
+        ensures had { IfOk result (λ had. had ≡ is_some (numbers_in self.old name.now)) }
+    {
+        let key = String::from_str(self.alloc, name)?;
+        let old = self.numbers.insert(key, number)?;
+        Ok(old.is_some())
     }
 }
