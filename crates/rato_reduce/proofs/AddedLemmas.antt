@@ -33,7 +33,7 @@ pub record AreSummed (old new : Terms) : Type 0 where
 
 -- ---- one term is another
 
-set_sum : (q : Monomial) (ts : Terms) (i : ℕ) (old new : Monomial × ℕ) → slice_get ts i ≡ Some old
+pub set_sum : (q : Monomial) (ts : Terms) (i : ℕ) (old new : Monomial × ℕ) → slice_get ts i ≡ Some old
     → coefficient_in q (slice_set ts i new) ≡ bit_xor (coefficient_in q ts) (bit_xor (at_monomial q old) (at_monomial q new))
 set_sum q [] i old new got = absurd (cc)
 set_sum q (t ∷ ts) zero old new got =

@@ -282,7 +282,7 @@ module _ (places : List ℕ) (old new : List Terms) (i count n : ℕ) (are : Are
 pub added_long : (old new : List Terms) (i : ℕ) (t : Monomial × ℕ) → HasTermAt old new i t → length new ≡ length old
 added_long old new i t has = ap length has.is.set ∙ length-set old i (has.before ++ t ∷ [])
 
--- ---- lists whose terms are added to a polynomial
+-- ---- lists one behind the other
 
 all_first : (ts us : Terms) → AllByRecursion IsBitTerm (ts ++ us) → AllByRecursion IsBitTerm ts
 all_first [] us all = tt
@@ -298,11 +298,11 @@ each_split lists rest ts are all =
     let both = subst P are all in
     (all_first ts (joined rest) both, all_later ts (joined rest) both)
 
-pub step_lists : (old new goal : Terms) (lists rest : List Terms) (ts : Terms) → lists ≡ ts ∷ rest → plus text_cmp old (joined lists) ≡ goal → new ≡ plus text_cmp old ts → plus text_cmp new (joined rest) ≡ goal
+pub step_lists : (old new goal : Terms) (lists rest : List Terms) (ts : Terms) → lists ≡ ts ∷ rest → old ++ joined lists ≡ goal → new ≡ old ++ ts → new ++ joined rest ≡ goal
 step_lists old new goal lists rest ts next so_far step =
-    ap (λ us. plus text_cmp us (joined rest)) step
-    ∙ sym (plus_append old ts (joined rest))
-    ∙ ap (λ (ls : List Terms). plus text_cmp old (joined ls)) (sym next)
+    ap (λ (us : Terms). us ++ joined rest) step
+    ∙ append_assoc old ts (joined rest)
+    ∙ ap (λ (ls : List Terms). old ++ joined ls) (sym next)
     ∙ so_far
 
 -- ---- a list was taken from the end

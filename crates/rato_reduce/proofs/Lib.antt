@@ -18,6 +18,7 @@ mod RetainedLemmas
 mod AddedLemmas
 mod RowLemmas
 mod BucketLemmas
+mod ListedLemmas
 mod LevelLemmas
 mod PairLemmas
 mod SilentLemmas

@@ -8,14 +8,14 @@ ghost use Rattle.poly_mixed.specs.Monomial.{text_cmp};
 ghost use Rattle.poly_mixed.specs.Sum.{plus, plus_term};
 ghost use Rattle.rato_reduce.specs.private.Buckets.{joined, level_at, AreOut, AreUpTo, HasTermAt, AreTaken, IsCounted, IsMerged, IsMergedAt, StayLevelled};
 ghost use Rattle.rato_reduce.specs.private.CutTerms.{of_bits, IsBitTerm};
-ghost use Rattle.rato_reduce.specs.private.Rows.{lines_of, product_of, term_bits};
+ghost use Rattle.rato_reduce.specs.private.Rows.{product_of, term_bits};
 
 use crate::bucket::Bucket;
 use crate::key::{first_place, place_of};
-use crate::row::{Row, bits_of};
+use crate::listed::sum_of_lists;
 use crate::stop::Stop;
 use crate::term::Term;
-use poly_mixed::{Mono, Poly};
+use poly_mixed::Term as PolyTerm;
 use std::alloc::{AllocError, Global};
 use std::marker::Model;
 use std::mem::swap;
@@ -155,38 +155,13 @@ impl Buckets {
         Ok(())
     }
 
-    /// The same polynomial, in the order of a text.
-    pub fn to_poly(&self) -> Result<Poly, AllocError>
-        ensures { IfOk result (λ q. q.terms ≡ self.now.terms) }
+    /// The terms of the polynomial, in the order of a text.
+    pub fn to_terms(&self) -> Result<Vec<PolyTerm>, AllocError>
+        ensures { IfOk result (λ v. v.items ≡ self.now.terms) }
     {
-        let mut sum = Poly::zero(self.alloc);
-        add_lists(self.alloc, self.list.as_slice(), &mut sum)?;
-        Ok(sum)
+        let terms = sum_of_lists(self.alloc, self.list.as_slice())?;
+        Ok(terms)
     }
-}
-
-// Adds the terms of lists to a polynomial.
-fn add_lists(alloc: Global, list: &[Bucket], sum: &mut Poly) -> Result<(), AllocError>
-    requires { AllByRecursion IsBitTerm (joined list.now) }
-    ensures { OnOk result (sum.new.terms ≡ plus text_cmp sum.old.terms (joined list.now)) }
-{
-    for bucket in list {
-        let (ranks, rows) = bucket.parts();
-        add_rows(alloc, ranks, rows, sum)?;
-    }
-    Ok(())
-}
-
-// Adds the terms of rows to a polynomial.
-fn add_rows(alloc: Global, ranks: &[u32], rows: &[Row], sum: &mut Poly) -> Result<(), AllocError>
-    requires { AllByRecursion IsBitTerm (lines_of ranks.now rows.now) }
-    ensures { OnOk result (sum.new.terms ≡ plus text_cmp sum.old.terms (lines_of ranks.now rows.now)) }
-{
-    for row in rows {
-        let mono = Mono::new(alloc, bits_of(ranks, row), &[0; 8])?;
-        sum.add_term(mono, row.coefficient)?;
-    }
-    Ok(())
 }
 
 // Takes the last list, if it is of this level or of a greater one.

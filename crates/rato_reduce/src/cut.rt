@@ -15,9 +15,10 @@ use crate::bit_term::BitTerm;
 use crate::buckets::Buckets;
 use crate::entries::Entries;
 use crate::key::{Key, place_of};
+use crate::listed::{push_bits, sum_in_order};
 use crate::monomials::has_place;
 use crate::ranks::Ranks;
-use poly_mixed::{Mono, Poly};
+use poly_mixed::Term;
 use std::alloc::{AllocError, Global};
 use std::marker::Model;
 
@@ -220,12 +221,13 @@ impl Cut {
         self.add_all(&others)
     }
 
-    /// The same polynomial, in the order of a text.
-    pub fn to_poly(&self) -> Result<Poly, AllocError>
-        ensures { IfOk result (λ q. q.terms ≡ self.now.terms) }
+    /// The terms of the polynomial, in the order of a text.
+    pub fn to_terms(&self) -> Result<Vec<Term>, AllocError>
+        ensures { IfOk result (λ v. v.items ≡ self.now.terms) }
     {
-        let mut sum = constant_poly(self.alloc, self.constant)?;
-        self.map.add_terms(self.alloc, &mut sum)?;
+        let mut terms = constant_terms(self.alloc, self.constant)?;
+        self.map.push_terms(self.alloc, &mut terms)?;
+        let sum = sum_in_order(self.alloc, terms)?;
         Ok(sum)
     }
 
@@ -246,16 +248,15 @@ fn chosen(c: u64, added: bool) -> u64
     if added { c } else { 0 }
 }
 
-// The polynomial of a term without bits, which has none where the coefficient is 0.
-fn constant_poly(alloc: Global, c: u64) -> Result<Poly, AllocError>
-    ensures { IfOk result (λ q. q.terms ≡ with_coefficient (of_bits []) c []) }
+// The term without bits in a list, which is empty where the coefficient is 0.
+fn constant_terms(alloc: Global, c: u64) -> Result<Vec<Term>, AllocError>
+    ensures { IfOk result (λ v. v.items ≡ with_coefficient (of_bits []) c []) }
 {
-    let mut sum = Poly::zero(alloc);
+    let mut terms = Vec::new(alloc);
     if c != 0 {
-        let mono = Mono::new(alloc, &[], &[0; 8])?;
-        sum.add_term(mono, c)?;
+        push_bits(alloc, &mut terms, &[], c)?;
     }
-    Ok(sum)
+    Ok(terms)
 }
 
 // The same in buckets.

@@ -10,8 +10,9 @@ ghost use Rattle.rato_reduce.specs.private.EntryList.{only_or, IsExchanged, IsOt
 
 use crate::buckets::Buckets;
 use crate::key::Key;
+use crate::listed::push_bits;
 use crate::row::hash_of_all;
-use poly_mixed::{Mono, Poly};
+use poly_mixed::Term;
 use std::alloc::{AllocError, Global};
 use std::collections::BTreeMap;
 use std::collections::btree_map::Entry;
@@ -93,16 +94,16 @@ impl Entries {
         exchange_in(&mut self.one, places, rank, by)
     }
 
-    /// Adds the terms of all to a polynomial. After running out of memory it is not used again.
-    pub fn add_terms(&self, alloc: Global, sum: &mut Poly) -> Result<(), AllocError>
+    /// Puts the terms of all at the end of a list.
+    pub fn push_terms(&self, alloc: Global, terms: &mut Vec<Term>) -> Result<(), AllocError>
         requires { AllByRecursion IsBitTerm (each_of term_of self.now.entries) }
-        ensures { OnOk result (sum.new.terms ≡ plus text_cmp sum.old.terms (each_of term_of self.now.entries)) }
+        ensures { OnOk result (terms.new.items ≡ terms.old.items ++ each_of term_of self.now.entries) }
     {
         if let Some((key, c)) = &self.one {
-            return add_term(alloc, sum, key, *c);
+            return push_term(alloc, terms, key, *c);
         }
         for (key, c) in &self.map {
-            add_term(alloc, sum, key, *c)?;
+            push_term(alloc, terms, key, *c)?;
         }
         Ok(())
     }
@@ -132,14 +133,12 @@ fn put_term(sum: &mut Buckets, key: &Key, c: u64) -> Result<(), AllocError>
     Ok(())
 }
 
-// Adds the term of an entry to a polynomial.
-fn add_term(alloc: Global, sum: &mut Poly, key: &Key, c: u64) -> Result<(), AllocError>
+// Puts the term of an entry at the end of a list.
+fn push_term(alloc: Global, terms: &mut Vec<Term>, key: &Key, c: u64) -> Result<(), AllocError>
     requires { IsBitTerm (term_of (key.now, c)) }
-    ensures { OnOk result (sum.new.terms ≡ plus text_cmp sum.old.terms (term_of (key.now, c) ∷ [])) }
+    ensures { OnOk result (terms.new.items ≡ terms.old.items ++ term_of (key.now, c) ∷ []) }
 {
-    let mono = Mono::new(alloc, key.bits().as_slice(), &[0; 8])?;
-    sum.add_term(mono, c)?;
-    Ok(())
+    push_bits(alloc, terms, key.bits().as_slice(), c)
 }
 
 // Puts the only entry into the map.

@@ -29,7 +29,7 @@ use gf_basis::Basis;
 use gf_field::Field;
 use net_core::Gate;
 use net_words::Combinational;
-use poly_mixed::{Poly, Steps, exclusive_form};
+use poly_mixed::{Steps, Term, exclusive_form};
 use std::alloc::{AllocError, Global};
 
 // An output word of fewer bits is not worth the lists.
@@ -105,11 +105,11 @@ fn reduce<F: Field>(
     output: &Basis,
     order: &[u32],
     bound: u32,
-) -> Result<Poly, Stop>
+) -> Result<Vec<Term>, Stop>
     requires bits { circuit.now.binding.k ≡ F.degree field.now }
     requires basis { IsBasisOver (F.degree field.now) (F.product field.now) output.now }
     requires order { IsElimination circuit.now.net order.now }
-    ensures last { IfOk result (λ q. IsOfStage (F.degree field.now) (F.product field.now) (BoundCut circuit.now (elements_of output.now) (length circuit.now.net.gates)) q.terms) }
+    ensures last { IfOk result (λ q. IsOfStage (F.degree field.now) (F.product field.now) (BoundCut circuit.now (elements_of output.now) (length circuit.now.net.gates)) q.items) }
     ensures within { OnOk result (AreAllWithin (F.degree field.now) (F.product field.now) (bound_cuts circuit.now (elements_of output.now)) bound) }
     ensures steps { OnOk result (AreAllRecorded (F.degree field.now) (F.product field.now) circuit.now (elements_of output.now) None None) }
 {
@@ -128,8 +128,10 @@ fn reduce<F: Field>(
         put_gate(alloc, field, circuit, gate, &mut cut, &mut part)?;
         check_size(&mut cut, bound)?;
     }
-    let poly = cut.to_poly()?;
-    Ok(poly)
+    // Most equal terms are added up at a lower cost where they stand than once they are sorted.
+    cut.merge(0)?;
+    let terms = cut.to_terms()?;
+    Ok(terms)
 }
 
 /// The polynomial of the last cut, if the recorder does not tell its steps, the output word has more than one bit, and it is
@@ -142,11 +144,11 @@ pub fn reduce_in_buckets<F: Field, T: Steps>(
     order: &[u32],
     bound: u32,
     steps: &T,
-) -> Result<Option<Poly>, AllocError>
+) -> Result<Option<Vec<Term>>, AllocError>
     requires bits { circuit.now.binding.k ≡ F.degree field.now }
     requires basis { IsBasisOver (F.degree field.now) (F.product field.now) output.now }
     requires order { IsElimination circuit.now.net order.now }
-    ensures last { IfOk result (λ o. IfSome o (λ q. IsOfStage (F.degree field.now) (F.product field.now) (BoundCut circuit.now (elements_of output.now) (length circuit.now.net.gates)) q.terms)) }
+    ensures last { IfOk result (λ o. IfSome o (λ q. IsOfStage (F.degree field.now) (F.product field.now) (BoundCut circuit.now (elements_of output.now) (length circuit.now.net.gates)) q.items)) }
     ensures within { IfOk result (λ o. IfSome o (λ _. AreAllWithin (F.degree field.now) (F.product field.now) (bound_cuts circuit.now (elements_of output.now)) bound)) }
     ensures steps { IfOk result (λ o. IfSome o (λ _. AreAllRecorded (F.degree field.now) (F.product field.now) circuit.now (elements_of output.now) (T.steps steps.now) (T.steps steps.now))) }
 {
@@ -154,7 +156,7 @@ pub fn reduce_in_buckets<F: Field, T: Steps>(
         return Ok(None);
     }
     match reduce(alloc, field, circuit, output, order, bound) {
-        Ok(poly) => Ok(Some(poly)),
+        Ok(terms) => Ok(Some(terms)),
         Err(Stop::GivesUp) => Ok(None),
         Err(Stop::OutOfMemory) => Err(AllocError),
     }

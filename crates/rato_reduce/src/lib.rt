@@ -12,6 +12,7 @@ mod first_cut;
 mod in_buckets;
 mod key;
 mod line;
+mod listed;
 mod merge;
 mod monomials;
 mod pair;

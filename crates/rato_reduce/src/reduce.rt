@@ -20,7 +20,7 @@ use gf_basis::Basis;
 use gf_field::Field;
 use net_core::{Net, order};
 use net_words::Combinational;
-use poly_mixed::{Poly, ReduceFault, Stage, Steps};
+use poly_mixed::{ReduceFault, Stage, Steps, Term};
 use std::alloc::{AllocError, Global};
 
 // The positions of the gates from the greatest level to the least, and within a level from the greatest position to the least.
@@ -79,11 +79,11 @@ fn reduce_in_map<F: Field, T: Steps>(
     order: &[u32],
     bound: u32,
     steps: &mut T,
-) -> Result<Poly, ReduceFault>
+) -> Result<Vec<Term>, ReduceFault>
     requires bits { circuit.now.binding.k ≡ F.degree field.now }
     requires basis { IsBasisOver (F.degree field.now) (F.product field.now) output.now }
     requires order { IsElimination circuit.now.net order.now }
-    ensures last { IfOk result (λ q. IsOfStage (F.degree field.now) (F.product field.now) (BoundCut circuit.now (elements_of output.now) (length circuit.now.net.gates)) q.terms) }
+    ensures last { IfOk result (λ q. IsOfStage (F.degree field.now) (F.product field.now) (BoundCut circuit.now (elements_of output.now) (length circuit.now.net.gates)) q.items) }
     ensures within { OnOk result (AreAllWithin (F.degree field.now) (F.product field.now) (bound_cuts circuit.now (elements_of output.now)) bound) }
     ensures fault { IfErr result (IsRefusal (F.degree field.now) (F.product field.now) (bound_cuts circuit.now (elements_of output.now)) bound) }
     ensures steps { OnOk result (AreAllRecorded (F.degree field.now) (F.product field.now) circuit.now (elements_of output.now) (T.steps steps.old) (T.steps steps.new)) }
@@ -96,8 +96,8 @@ fn reduce_in_map<F: Field, T: Steps>(
         eliminate(alloc, field, circuit, gate, &mut cut, &mut part, steps)?;
         check_size(&cut, bound, t as u32 + 1)?;
     }
-    let poly = cut.to_poly()?;
-    Ok(poly)
+    let terms = cut.to_terms()?;
+    Ok(terms)
 }
 
 // The same in buckets, if that is seen to be within the bound, and else in a map.
@@ -109,11 +109,11 @@ fn reduce_in_order<F: Field, T: Steps>(
     order: &[u32],
     bound: u32,
     steps: &mut T,
-) -> Result<Poly, ReduceFault>
+) -> Result<Vec<Term>, ReduceFault>
     requires bits { circuit.now.binding.k ≡ F.degree field.now }
     requires basis { IsBasisOver (F.degree field.now) (F.product field.now) output.now }
     requires order { IsElimination circuit.now.net order.now }
-    ensures last { IfOk result (λ q. IsOfStage (F.degree field.now) (F.product field.now) (BoundCut circuit.now (elements_of output.now) (length circuit.now.net.gates)) q.terms) }
+    ensures last { IfOk result (λ q. IsOfStage (F.degree field.now) (F.product field.now) (BoundCut circuit.now (elements_of output.now) (length circuit.now.net.gates)) q.items) }
     ensures within { OnOk result (AreAllWithin (F.degree field.now) (F.product field.now) (bound_cuts circuit.now (elements_of output.now)) bound) }
     ensures fault { IfErr result (IsRefusal (F.degree field.now) (F.product field.now) (bound_cuts circuit.now (elements_of output.now)) bound) }
     ensures steps { OnOk result (AreAllRecorded (F.degree field.now) (F.product field.now) circuit.now (elements_of output.now) (T.steps steps.old) (T.steps steps.new)) }
@@ -124,7 +124,8 @@ fn reduce_in_order<F: Field, T: Steps>(
     reduce_in_map(alloc, field, circuit, output, order, bound, steps)
 }
 
-/// The polynomial of the output word's element in the bits of the primary inputs: that of the last cut.
+/// The polynomial of the output word's element in the bits of the primary inputs: the terms of the last cut, in the order of
+/// a text.
 ///
 /// The gates are eliminated one by one, from the greatest level to the least and within a level from the greatest position
 /// to the least (Lv, Kalla, Enescu, IEEE TCAD 2013, in an order of this project's own). `output` is the basis of the
@@ -139,10 +140,10 @@ pub fn reduce_bits<F: Field, T: Steps>(
     output: &Basis,
     bound: u32,
     steps: &mut T,
-) -> Result<Poly, ReduceFault>
+) -> Result<Vec<Term>, ReduceFault>
     requires bits { circuit.now.binding.k ≡ F.degree field.now }
     requires basis { IsBasisOver (F.degree field.now) (F.product field.now) output.now }
-    ensures last { IfOk result (λ q. IsOfStage (F.degree field.now) (F.product field.now) (BoundCut circuit.now (elements_of output.now) (length circuit.now.net.gates)) q.terms) }
+    ensures last { IfOk result (λ q. IsOfStage (F.degree field.now) (F.product field.now) (BoundCut circuit.now (elements_of output.now) (length circuit.now.net.gates)) q.items) }
     ensures within { OnOk result (AreAllWithin (F.degree field.now) (F.product field.now) (bound_cuts circuit.now (elements_of output.now)) bound) }
     ensures fault { IfErr result (IsRefusal (F.degree field.now) (F.product field.now) (bound_cuts circuit.now (elements_of output.now)) bound) }
     ensures steps { OnOk result (AreAllRecorded (F.degree field.now) (F.product field.now) circuit.now (elements_of output.now) (T.steps steps.old) (T.steps steps.new)) }

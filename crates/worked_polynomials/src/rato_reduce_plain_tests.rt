@@ -1,17 +1,16 @@
 //! The elimination beside the plain programs: each cut's size with each bound, and the output at each input.
 ghost use Rattle.std.specs.Prelude.{◌≡◌, length};
 ghost use Rattle.gf_basis.specs.BasisParts.{IsBasisOver};
-ghost use Rattle.poly_mixed.specs.Polynomial.{IsReduced};
 ghost use Rattle.circuit_model.specs.Flat.{AreOver};
 
 use crate::circuits::output_at;
 use crate::rato_reduce_tests::reduced;
 use circuit_model::CircuitWord;
-use gf_field::{Field, is_element};
+use gf_field::Field;
 use net_core::Net;
 use net_words::Combinational;
 use plain_runs::cut_size;
-use poly_mixed::{NoSteps, Poly, ReduceFault, Stage};
+use poly_mixed::{NoSteps, ReduceFault, Stage, Term};
 use std::alloc::{AllocError, Global};
 use std::process::Abort;
 
@@ -59,7 +58,7 @@ fn has_outcome<F: Field>(
 ) -> bool {
     let over = first_over(sizes, bound);
     match reduced(rt, alloc, field, circuit, bound, &mut NoSteps) {
-        Ok(poly) => over.is_none() && sizes.last() == Some(&poly.len()),
+        Ok(terms) => over.is_none() && sizes.last() == Some(&terms.len()),
         Err(
             ReduceFault::TooManyTerms {
                 stage: Stage::Cut(cut),
@@ -82,15 +81,29 @@ fn low_bits(number: u64) -> [bool; 6] {
     ]
 }
 
-// The value where the bits are those of a number.
-fn value<F: Field>(field: &F, poly: &Poly, number: u64) -> Option<u64>
-    requires { IsReduced (F.degree field.now) poly.now.terms }
-{
-    if is_element(field, 0) {
-        Some(poly.value(field, &[0; 8], &low_bits(number)))
-    } else {
-        None
+// Whether all of these bits are 1; a rank past the end is 0.
+fn are_ones(bits: &[bool], ranks: &[u32]) -> bool {
+    for rank in ranks {
+        if bits.get(*rank as usize) != Some(&true) {
+            return false;
+        }
     }
+    true
+}
+
+// The value of the sum of terms where the bits are those of a number; none where a word stands in one of them.
+fn value(terms: &[Term], number: u64) -> Option<u64> {
+    let bits = low_bits(number);
+    let mut sum = 0;
+    for term in terms {
+        if *term.mono().exponents() != [0; 8] {
+            return None;
+        }
+        if are_ones(&bits, term.mono().bits()) {
+            sum ^= term.coefficient();
+        }
+    }
+    Some(sum)
 }
 
 // The output by the plain program where the bits are those of a number, two for each of at most three words.
@@ -112,22 +125,21 @@ fn plain_output<F: Field>(
     output_at(alloc, field, net, words, to, &xs[..words.len()])
 }
 
-// Whether a polynomial has the values of the plain program's outputs at each input, and the first of them are these.
+// Whether the sum of terms has the values of the plain program's outputs at each input, and the first of them are these.
 fn are_values<F: Field>(
     alloc: Global,
     field: &F,
     net: &Net,
     words: &[CircuitWord],
     to: &CircuitWord,
-    poly: &Poly,
+    terms: &[Term],
     values: &[u64; 4],
 ) -> Result<bool, AllocError>
     requires words { AreOver (F.degree field.now) (F.product field.now) words.now }
     requires over { IsBasisOver (F.degree field.now) (F.product field.now) to.now.basis }
-    requires poly { IsReduced (F.degree field.now) poly.now.terms }
 {
     for number in 0..1u64 << (2 * words.len().min(3)) {
-        let found = value(field, poly, number);
+        let found = value(terms, number);
         if number < 4 && found != Some(values[number as usize]) {
             return Ok(false);
         }
@@ -152,9 +164,9 @@ fn has_values<F: Field>(
     requires over { IsBasisOver (F.degree field.now) (F.product field.now) to.now.basis }
 {
     match reduced(rt, alloc, field, circuit, u32::MAX, &mut NoSteps) {
-        Ok(poly) => {
+        Ok(terms) => {
             matches!(
-                are_values(alloc, field, circuit.net(), words, to, &poly, values),
+                are_values(alloc, field, circuit.net(), words, to, &terms, values),
                 Ok(true)
             )
         }

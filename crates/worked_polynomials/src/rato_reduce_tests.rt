@@ -143,8 +143,8 @@ pub(crate) fn reduced<F: Field, T: Steps>(
     circuit: &Combinational,
     bound: u32,
     steps: &mut T,
-) -> Result<Poly, ReduceFault>
-    ensures { IfOk result (λ q. IsReduced (F.degree field.now) q.terms) }
+) -> Result<Vec<Term>, ReduceFault>
+    ensures { IfOk result (λ q. IsReduced (F.degree field.now) q.items) }
 {
     assert!(rt; circuit.binding().k() == field.k());
     reduce_bits(alloc, field, circuit, &Basis::poly(field), bound, steps)

@@ -31,7 +31,9 @@ pub fn in_bits<F: Field>(
     assert_eq!(rt; circuit.binding().k(), field.k());
     assert_eq!(rt; circuit.binding().words() as usize, bases.len());
     let basis = output_basis(circuit.binding(), bases);
-    reduce_bits(alloc, field, circuit, basis, u32::MAX, &mut NoSteps)
+    let terms = reduce_bits(alloc, field, circuit, basis, u32::MAX, &mut NoSteps)?;
+    let poly = sum_anew(rt, alloc, field, &terms)?;
+    Ok(poly)
 }
 
 // The polynomial of the output in the words, where no stage of words has more terms than the bound.
@@ -111,6 +113,23 @@ fn term_anew<F: Field>(
     Ok(product)
 }
 
+// The sum of terms, made anew.
+fn sum_anew<F: Field>(
+    rt: &impl Abort,
+    alloc: Global,
+    field: &F,
+    terms: &[Term],
+) -> Result<Poly, AllocError>
+    ensures { IfOk result (λ q. IsReduced (F.degree field.now) q.terms) }
+{
+    let mut sum = Poly::zero(alloc);
+    for term in terms {
+        let part = term_anew(rt, alloc, field, term)?;
+        sum.add_into(field, &part)?;
+    }
+    Ok(sum)
+}
+
 // A copy of a polynomial, made anew out of its terms.
 fn anew<F: Field>(
     rt: &impl Abort,
@@ -120,12 +139,8 @@ fn anew<F: Field>(
 ) -> Result<Poly, AllocError>
     ensures { IfOk result (λ q. IsReduced (F.degree field.now) q.terms) }
 {
-    let mut sum = Poly::zero(alloc);
-    for term in poly.terms(alloc)?.iter() {
-        let part = term_anew(rt, alloc, field, term)?;
-        sum.add_into(field, &part)?;
-    }
-    Ok(sum)
+    let terms = poly.terms(alloc)?;
+    sum_anew(rt, alloc, field, &terms)
 }
 
 // Adds the products of a term with the sizes that the plain program finds.

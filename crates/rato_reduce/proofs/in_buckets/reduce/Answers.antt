@@ -115,7 +115,7 @@ returns-clause-last g c =
     let done : c.loop-t.t ≡ length circuit.net.gates = omega arith in
     let P : ℕ → Type 0 = λ n. IsOfStage degree mul (BoundCut circuit basis n) c.loop-t.cut.terms in
     let Q : Terms → Type 0 = λ ts. IsOfStage degree mul (BoundCut circuit basis (length circuit.net.gates)) ts in
-    subst Q (sym c.in_ok-poly.ensures) (subst P done (is_cut degree mul circuit basis order is c.loop-t.t c.loop-t.cut.terms c.loop-t.invariant.is))
+    subst Q (sym (c.in_ok-terms.ensures ∙ c.in_ok-merge.ensures)) (subst P done (is_cut degree mul circuit basis order is c.loop-t.t c.loop-t.cut.terms c.loop-t.invariant.is))
 
 pub returns-clause-within : goal.returns-clause-within
 returns-clause-within g c =

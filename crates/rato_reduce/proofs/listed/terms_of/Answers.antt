@@ -1,15 +1,13 @@
-use Rattle.std.proofs.Common.{◌+◌, List, drop, sym, ◌∙◌, ap, subst}
+use Rattle.std.proofs.Common.{◌+◌, ◌++◌, List, drop, sym, ◌∙◌, ap, subst}
 use Rattle.std.specs.List.{AllByRecursion}
 use Rattle.lists.specs.laws.TakeLaws.{drop_read}
-use Rattle.poly_mixed.specs.Monomial.{text_cmp}
 use Rattle.poly_mixed.specs.Polynomial.{Terms}
-use Rattle.poly_mixed.specs.Sum.{plus}
 use Rattle.rato_reduce.specs.private.CutTerms.{IsBitTerm}
 use Rattle.rato_reduce.proofs.BucketLemmas.{each_split, step_lists}
-use Rattle.rato_reduce.proofs.buckets.add_lists.Goals as goal
+use Rattle.rato_reduce.proofs.listed.terms_of.Goals as goal
 
-pub add_rows-requires : goal.add_rows-requires
-add_rows-requires c =
+pub push_rows-requires : goal.push_rows-requires
+push_rows-requires c =
     let lists : List Terms = c.args.list.now in
     let i = c.loop-bucket.bucket-index in
     let next = drop_read lists i c.bucket-item.result c.loop-bucket-test.true c.bucket-item.is in
@@ -19,9 +17,10 @@ add_rows-requires c =
 pub loop-bucket-preserved : goal.loop-bucket-preserved
 loop-bucket-preserved c =
     let lists : List Terms = c.args.list.now in
+    let old : Terms = c.loop-bucket.terms.items in
     let i = c.loop-bucket.bucket-index in
     let next = drop_read lists i c.bucket-item.result c.loop-bucket-test.true c.bucket-item.is in
     record {
       each = (each_split (drop i lists) (drop (i + 1) lists) c.bucket-item.result next c.loop-bucket.invariant.each).1;
-      sum = step_lists c.loop-bucket.sum.terms c.add_rows.new.sum.terms _ (drop i lists) (drop (i + 1) lists) c.bucket-item.result next c.loop-bucket.invariant.sum (c.in_ok-add_rows.ensures ∙ ap (plus text_cmp c.loop-bucket.sum.terms) c.parts.ensures);
+      so_far = step_lists old c.push_rows.new.terms.items _ (drop i lists) (drop (i + 1) lists) c.bucket-item.result next c.loop-bucket.invariant.so_far (c.in_ok-push_rows.ensures ∙ ap (λ (ts : Terms). old ++ ts) c.parts.ensures);
     }

@@ -1,0 +1,13 @@
+use Rattle.std.proofs.Common.{[], sym, ◌∙◌, ap, subst}
+use Rattle.std.specs.List.{AllByRecursion}
+use Rattle.poly_mixed.specs.Monomial.{text_cmp}
+use Rattle.poly_mixed.specs.Polynomial.{Terms}
+use Rattle.poly_mixed.specs.Sum.{plus}
+use Rattle.rato_reduce.specs.private.CutTerms.{IsBitTerm}
+use Rattle.rato_reduce.proofs.listed.sum_of_lists.Goals as goal
+
+pub sum_in_order-requires : goal.sum_in_order-requires
+sum_in_order-requires c = let P : Terms → Type 0 = AllByRecursion IsBitTerm in subst P (sym c.in_ok-terms.ensures) c.requires
+
+pub returns : goal.returns
+returns c = c.in_ok-sum.ensures ∙ ap (plus text_cmp []) c.in_ok-terms.ensures
