@@ -1,4 +1,5 @@
-//! Terms in lists by the level of their bits.
+//! Terms in lists by the level of their bits. A `Term` has its bits somewhere else, a `PolyTerm` owns them: it is what is given
+//! at the end.
 ghost use Rattle.std.specs.Prelude.{◌≡◌, ◌≢◌, ◌+◌, ◌++◌, ◌∷◌, ◌<◌, ◌≤◌, ℕ, [], length, IsTrue, IfOk, IfSome, IfNone, OnOk, OnErr};
 ghost use Rattle.std.specs.List.{AllByRecursion};
 ghost use Rattle.std.specs.List.Sorted.{IsStrictlySortedBy};

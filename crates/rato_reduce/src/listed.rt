@@ -72,8 +72,7 @@ pub fn sum_of_lists(alloc: Global, list: &[Bucket]) -> Result<Vec<Term>, AllocEr
     Ok(sum)
 }
 
-/// The sum of terms without words, of rising bits and coefficients that are not 0, in the order of a text. It takes the least
-/// time where they come in that order or in its reverse.
+/// The sum of terms without words, of rising bits and coefficients that are not 0, in the order of a text.
 pub fn sum_in_order(alloc: Global, mut terms: Vec<Term>) -> Result<Vec<Term>, AllocError>
     requires { AllByRecursion IsBitTerm terms.items }
     ensures { IfOk result (λ v. v.items ≡ plus text_cmp [] terms.items) }
