@@ -20,23 +20,47 @@ fn has_bits(ranks: &[u32], rows: &[Row], index: usize, i: usize) -> bool
 }
 
 // The first place of a table in which a row of this hash is looked for, with room behind it for all looks.
-fn first_look(table: &[usize], hash: u64) -> usize {
+fn first_look(table: &[u32], hash: u64) -> usize {
     (hash >> 32) as usize % table.len().saturating_sub(LOOKS).max(1)
 }
 
-// The index of a row with the bits of that at another index, if a few looks into the table from a place on find it. The table has
-// at its places 0, or the number of a row, counted from 1; which of them it has decides how many rows are found, and nothing else.
-fn find(ranks: &[u32], rows: &[Row], table: &[usize], first: usize, i: usize) -> Option<usize>
+// The number that a table has for the row at an index, counted from 1, or 0 where it is too great for a table: that row is not
+// found.
+fn number_of(i: usize) -> u32 {
+    match u32::try_from(i.saturating_add(1)) {
+        Ok(number) => number,
+        Err(_) => 0,
+    }
+}
+
+// Puts the number of a row at a place of a table.
+fn note(table: &mut [u32], place: usize, i: usize) {
+    if let Some(there) = table.get_mut(place) {
+        *there = number_of(i);
+    }
+}
+
+// The index of a row with the bits of that at another index, if a few looks into the table from a place on find it. If they find
+// an empty place first, the row is noted there. The table has at its places 0, or the number of a row; which of them it has
+// decides how many rows are found, and nothing else.
+fn find_or_note(
+    ranks: &[u32],
+    rows: &[Row],
+    table: &mut [u32],
+    first: usize,
+    i: usize,
+) -> Option<usize>
     requires { i < length rows.now }
     ensures { IfSome result (λ index. HaveSameBits ranks.now rows.now index i) }
 {
     let mut place = first;
     for _ in 0..LOOKS {
         let number = match table.get(place) {
-            Some(number) => *number,
+            Some(number) => *number as usize,
             None => 0,
         };
         if number == 0 {
+            note(table, place, i);
             return None;
         }
         if has_bits(ranks, rows, number - 1, i) {
@@ -45,23 +69,6 @@ fn find(ranks: &[u32], rows: &[Row], table: &[usize], first: usize, i: usize) ->
         place = place.wrapping_add(1);
     }
     None
-}
-
-// Puts the number of a row into the table, if a few looks from a place on find an empty one.
-fn note(table: &mut [usize], first: usize, number: usize) {
-    let mut place = first;
-    for _ in 0..LOOKS {
-        match table.get_mut(place) {
-            Some(there) => {
-                if *there == 0 {
-                    *there = number;
-                    return;
-                }
-            }
-            None => return,
-        }
-        place = place.wrapping_add(1);
-    }
 }
 
 // Adds to the coefficient of the row at an index.
@@ -90,20 +97,19 @@ fn move_to(_ranks: &[u32], rows: &mut [Row], to: usize, from: usize)
 }
 
 // Adds the row at an index to one with its bits, if that is found, and else notes it.
-fn add_one(ranks: &[u32], rows: &mut [Row], table: &mut [usize], i: usize)
+fn add_one(ranks: &[u32], rows: &mut [Row], table: &mut [u32], i: usize)
     requires { i < length rows.old }
     ensures same { AreAddedUp ranks.now rows.old rows.new }
     ensures long { length rows.new ≡ length rows.old }
 {
     let first = first_look(table, rows[i].hash);
-    match find(ranks, rows, table, first, i) {
-        Some(index) => move_to(ranks, rows, index, i),
-        None => note(table, first, i + 1),
+    if let Some(index) = find_or_note(ranks, rows, table, first, i) {
+        move_to(ranks, rows, index, i);
     }
 }
 
 // Adds up equal terms that a few looks into the table find, and leaves 0 in the place of all but one.
-fn add_up(ranks: &[u32], rows: &mut [Row], table: &mut [usize])
+fn add_up(ranks: &[u32], rows: &mut [Row], table: &mut [u32])
     ensures same { AreAddedUp ranks.now rows.old rows.new }
     ensures long { length rows.new ≡ length rows.old }
 {
