@@ -35,8 +35,8 @@ use std::alloc::{AllocError, Global};
 // An output word of fewer bits is not worth the lists.
 const FEW: usize = 2;
 
-// Adds the products of the terms without a bit, which each has to have, and of the form of a table at the inputs of a gate. A
-// form of at most two bits makes no list of sets.
+// Adds the products of the terms without a bit, which each has to have, and of the form of a table at the inputs of a gate. For
+// one input or two no list of sets is made.
 fn add_form(
     alloc: Global,
     circuit: &Combinational,

@@ -1,4 +1,4 @@
-//! What is put in at the output of a gate of at most two inputs.
+//! What is put in at the output of a gate of one input or two.
 ghost use Rattle.std.specs.Prelude.{◌≡◌, ◌<◌, ◌≤◌, ◌∷◌, [], IfSome};
 ghost use Rattle.lists.specs.Lists.{Has};
 ghost use Rattle.net_core.specs.Sound.{IsSound};

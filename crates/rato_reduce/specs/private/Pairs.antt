@@ -1,4 +1,4 @@
--- What is put in at the output of a gate of at most two inputs. Source: this project's own.
+-- What is put in at the output of a gate of one input or two. Source: this project's own.
 use Rattle.std.specs.Prelude.{ℕ, Bool, cond, List, [], ◌∷◌, ◌++◌}
 use Rattle.poly_mixed.specs.Product.{with_rank}
 use Rattle.rato_reduce.specs.declared.pair.Pair.{Pair}
