@@ -23,4 +23,5 @@ mod LevelLemmas
 mod PairLemmas
 mod SilentLemmas
 mod UnitedLemmas
+mod LowLemmas
 mod TermLemmas

@@ -7,15 +7,15 @@ use Rattle.std.proofs.lemmas.List.Edits.{insert-append_right, insert_end, length
 use Rattle.poly_mixed.specs.Product.{with_rank, union}
 use Rattle.rato_reduce.specs.private.Rows.{IsLonger}
 
-with_same : (r : ℕ) (rs : List ℕ) → with_rank (r ∷ rs) r ≡ r ∷ rs
+pub with_same : (r : ℕ) (rs : List ℕ) → with_rank (r ∷ rs) r ≡ r ∷ rs
 with_same r rs =
     ap (λ b. cond b (r ∷ r ∷ rs) (cond (r == r) (r ∷ rs) (r ∷ with_rank rs r))) (le-ltb r r (omega arith))
     ∙ ap (λ b. cond b (r ∷ rs) (r ∷ with_rank rs r)) (eq-eqb r r refl)
 
-with_lower : (x r : ℕ) (rs : List ℕ) → r < x → with_rank (x ∷ rs) r ≡ r ∷ x ∷ rs
+pub with_lower : (x r : ℕ) (rs : List ℕ) → r < x → with_rank (x ∷ rs) r ≡ r ∷ x ∷ rs
 with_lower x r rs less = ap (λ b. cond b (r ∷ x ∷ rs) (cond (r == x) (x ∷ rs) (x ∷ with_rank rs r))) (lt-ltb r x less)
 
-below : (r x : ℕ) → r ≤ x → (x ≡ r → ⊥) → r < x
+pub below : (r x : ℕ) → r ≤ x → (x ≡ r → ⊥) → r < x
 below r x up other =
     elim (cases_order r x) [
       | inl same ↦ absurd (other (sym same))

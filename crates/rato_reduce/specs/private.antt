@@ -4,3 +4,4 @@ pub mod Buckets
 pub mod EntryList
 pub mod Pairs
 pub mod Rows
+pub mod LowBits
