@@ -1,8 +1,10 @@
 -- The level of a product is the greater of those of its factors.
 use Rattle.std.proofs.Common.{ℕ, ◌≤◌, ◌==◌, true, false, cond, nat_lt, List, [], ◌∷◌, ◌++◌, arith}
+use Rattle.std.specs.List.{AllByRecursion}
 use Rattle.lists.specs.laws.ListLaws.{all_append}
 use Rattle.poly_mixed.specs.Product.{with_rank, union}
 use Rattle.rato_reduce.specs.private.Buckets.{level_at, AreUpTo}
+use Rattle.rato_reduce.specs.private.CutKey.{place_at}
 
 pub up_to_more : (places : List ℕ) (low high : ℕ) (rs : List ℕ) → AreUpTo places low rs → low ≤ high → AreUpTo places high rs
 up_to_more places low high [] all less = tt
@@ -28,3 +30,8 @@ up_to_union places one other greater xs rs all more low high = up_to_both places
 
 pub up_to_append : (places : List ℕ) (one other greater : ℕ) (xs ys : List ℕ) → AreUpTo places one xs → AreUpTo places other ys → one ≤ greater → other ≤ greater → AreUpTo places greater (xs ++ ys)
 up_to_append places one other greater xs ys all more low high = all_append (λ r. level_at places r ≤ greater) xs ys (up_to_more places one greater xs all low) (up_to_more places other greater ys more high)
+
+-- places that are not before one are not before an earlier one
+pub all_behind : (places : List ℕ) (low high : ℕ) (rs : List ℕ) → low ≤ high → AllByRecursion (λ r. high ≤ place_at places r) rs → AllByRecursion (λ r. low ≤ place_at places r) rs
+all_behind places low high [] less all = tt
+all_behind places low high (r ∷ rs) less all = ((let one : high ≤ place_at places r = all.0 in omega (arith, one, less)), all_behind places low high rs less all.1)

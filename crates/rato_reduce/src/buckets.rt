@@ -1,6 +1,6 @@
 //! Terms in lists by the level of their bits. A `Term` has its bits somewhere else, a `PolyTerm` owns them: it is what is given
 //! at the end.
-ghost use Rattle.std.specs.Prelude.{◌≡◌, ◌≢◌, ◌+◌, ◌++◌, ◌∷◌, ◌<◌, ◌≤◌, ℕ, [], length, IsTrue, IfOk, IfSome, IfNone, OnOk, OnErr};
+ghost use Rattle.std.specs.Prelude.{◌≡◌, ◌≢◌, ◌+◌, ◌++◌, ◌∷◌, ◌<◌, ◌≤◌, ℕ, [], length, take, IsTrue, IfOk, IfSome, IfNone, OnOk, OnErr};
 ghost use Rattle.std.specs.List.{AllByRecursion};
 ghost use Rattle.std.specs.List.Sorted.{IsStrictlySortedBy};
 ghost use Rattle.std.specs.Ordering.{nat_cmp};
@@ -12,7 +12,7 @@ ghost use Rattle.rato_reduce.specs.private.CutTerms.{of_bits, IsBitTerm};
 ghost use Rattle.rato_reduce.specs.private.Rows.{product_of, term_bits};
 
 use crate::bucket::Bucket;
-use crate::key::{first_place, place_of};
+use crate::key::{first_below, first_place, place_of};
 use crate::listed::sum_of_lists;
 use crate::stop::Stop;
 use crate::term::Term;
@@ -92,6 +92,15 @@ impl Buckets {
         ensures { AreUpTo self.now.places result bits.now }
     {
         level(self.places.as_slice(), bits)
+    }
+
+    /// The index of the first bit that is not below a rank, and a level up to which those before it are. Which index it is decides
+    /// about time alone.
+    pub fn level_below(&self, bits: &[u32], rank: u32) -> (usize, usize)
+        ensures within { result.0 ≤ length bits.now }
+        ensures up_to { AreUpTo self.now.places result.1 (take result.0 bits.now) }
+    {
+        level_before(self.places.as_slice(), bits, rank)
     }
 
     /// Adds the product of a term of rising bits and of a set of bits, all up to a level. After running out of memory it is not
@@ -232,6 +241,15 @@ fn level(places: &[u32], bits: &[u32]) -> usize
     places
         .len()
         .saturating_sub(first_place(places, bits) as usize)
+}
+
+// The same of those before the first that is not below a rank, and its index.
+fn level_before(places: &[u32], bits: &[u32], rank: u32) -> (usize, usize)
+    ensures within { result.0 ≤ length bits.now }
+    ensures up_to { AreUpTo places.now result.1 (take result.0 bits.now) }
+{
+    let (at, first) = first_below(places, bits, rank);
+    (at, places.len().saturating_sub(first as usize))
 }
 
 // The level of a bit.

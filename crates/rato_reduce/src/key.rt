@@ -1,6 +1,7 @@
 //! Keys of the terms of a cut.
-ghost use Rattle.std.specs.Prelude.{◌≡◌, ◌∷◌, [], length, refl, IsTrue};
+ghost use Rattle.std.specs.Prelude.{◌≡◌, ◌≤◌, ◌∷◌, [], length, take, refl, IsTrue};
 ghost use Rattle.std.specs.Cmp.{partial_order_from_total, partial_equiv_from_equiv, eq_by_cmp_equiv};
+ghost use Rattle.std.specs.List.{AllByRecursion};
 ghost use Rattle.std.specs.Ordering.{eq_by_cmp, as_partial_cmp};
 ghost use Rattle.rato_reduce.specs.private.CutKey.{CutKey, place_at, first_from, hash_from, key_of, key_cmp, key_cmp_total};
 
@@ -97,6 +98,29 @@ pub fn first_place(places: &[u32], ranks: &[u32]) -> u32
         }
     }
     first
+}
+
+// The lesser of two places.
+fn lesser_of(one: u32, other: u32) -> u32
+    ensures one { result ≤ one }
+    ensures other { result ≤ other }
+{
+    if one < other { one } else { other }
+}
+
+/// The index of the first rank that is not below another one, and the first of the places of those before it. Which index it is
+/// decides about time alone.
+pub fn first_below(places: &[u32], ranks: &[u32], rank: u32) -> (usize, u32)
+    ensures within { result.0 ≤ length ranks.now }
+    ensures each { AllByRecursion (λ r. result.1 ≤ place_at places.now r) (take result.0 ranks.now) }
+{
+    let mut at = 0;
+    let mut first = u32::MAX;
+    while at < ranks.len() && ranks[at] < rank {
+        first = lesser_of(first, place_of(places, ranks[at]));
+        at += 1;
+    }
+    (at, first)
 }
 
 /// A hash of ranks.

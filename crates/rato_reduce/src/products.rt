@@ -11,16 +11,16 @@ ghost use Rattle.rato_reduce.specs.private.Rows.{line_at, lines_of, product_if, 
 use crate::buckets::Buckets;
 use crate::pair::{Pair, greater_of};
 use crate::ranks::Ranks;
-use crate::row::Row;
+use crate::row::{Row, bits_of};
 use crate::stop::Stop;
 use crate::term::{Term, term_without};
 use std::alloc::AllocError;
 
-// A level up to which the bits of a term are.
-fn term_level(cut: &Buckets, term: &Term<'_>) -> usize
+// A level up to which the bits of a term are, where those of its first part are up to one.
+fn term_level(cut: &Buckets, term: &Term<'_>, front: usize) -> usize
+    requires { AreUpTo cut.now.places front term.now.front.now }
     ensures { AreUpTo cut.now.places result (term_bits term.now) }
 {
-    let front = cut.level_for(term.front);
     let back = cut.level_for(term.back);
     greater_of(front, back)
 }
@@ -83,14 +83,15 @@ fn add_both(cut: &mut Buckets, term: &Term<'_>, level: usize, pair: &Pair) -> Re
     add_chosen(cut, term, level, &[first, second], pair.level, pair.all)
 }
 
-// Adds the products of a term and of what a pair has.
-fn add_pair(cut: &mut Buckets, term: &Term<'_>, pair: &Pair) -> Result<(), AllocError>
+// Adds the products of a term, whose first part is up to a level, and of what a pair has.
+fn add_pair(cut: &mut Buckets, term: &Term<'_>, front: usize, pair: &Pair) -> Result<(), AllocError>
     requires term { IsBitTerm (product_of term.now []) }
+    requires front { AreUpTo cut.old.places front term.now.front.now }
     requires levels { HasLevels cut.old.places pair.now }
     ensures sum { OnOk result (cut.new.terms ≡ plus text_cmp cut.old.terms (products (product_of term.now []) (pair_sets pair.now))) }
     ensures places { cut.new.places ≡ cut.old.places }
 {
-    let level = term_level(cut, term);
+    let level = term_level(cut, term, front);
     add_chosen(cut, term, level, &[], 0, pair.one)?;
     add_chosen(
         cut,
@@ -111,10 +112,12 @@ fn add_row(cut: &mut Buckets, ranks: &[u32], row: &Row, rank: u32, pair: &Pair) 
     ensures put { OnOk result (ArePutIn rank (line_at ranks.now row.now ∷ []) (pair_sets pair.now) cut.old.terms cut.new.terms) }
     ensures places { cut.new.places ≡ cut.old.places }
 {
-    match term_without(ranks, row, rank) {
+    let bits = bits_of(ranks, row);
+    let (place, front) = cut.level_below(bits, rank);
+    match term_without(ranks, row, rank, place) {
         None => Err(Stop::GivesUp),
         Some(term) => {
-            add_pair(cut, &term, pair)?;
+            add_pair(cut, &term, front, pair)?;
             Ok(())
         }
     }
@@ -139,12 +142,18 @@ pub fn add_rows(
     Ok(())
 }
 
-// Adds the products of a term and of each of these sets of bits.
-fn add_products(cut: &mut Buckets, term: &Term<'_>, sets: &[Ranks]) -> Result<(), AllocError>
-    requires { IsBitTerm (product_of term.now []) }
+// Adds the products of a term, whose first part is up to a level, and of each of these sets of bits.
+fn add_products(
+    cut: &mut Buckets,
+    term: &Term<'_>,
+    front: usize,
+    sets: &[Ranks],
+) -> Result<(), AllocError>
+    requires term { IsBitTerm (product_of term.now []) }
+    requires front { AreUpTo cut.old.places front term.now.front.now }
     ensures { OnOk result (cut.new.terms ≡ plus text_cmp cut.old.terms (products (product_of term.now []) sets.now)) }
 {
-    let level = term_level(cut, term);
+    let level = term_level(cut, term, front);
     for set in sets {
         let bits = set.as_slice();
         let bits_level = cut.level_for(bits);
@@ -164,10 +173,12 @@ fn add_set_row(
     requires { IsBitTerm (line_at ranks.now row.now) }
     ensures { OnOk result (ArePutIn rank (line_at ranks.now row.now ∷ []) sets.now cut.old.terms cut.new.terms) }
 {
-    match term_without(ranks, row, rank) {
+    let bits = bits_of(ranks, row);
+    let (place, front) = cut.level_below(bits, rank);
+    match term_without(ranks, row, rank, place) {
         None => Err(Stop::GivesUp),
         Some(term) => {
-            add_products(cut, &term, sets)?;
+            add_products(cut, &term, front, sets)?;
             Ok(())
         }
     }

@@ -1,8 +1,8 @@
 //! Terms whose bits stand somewhere else.
-ghost use Rattle.std.specs.Prelude.{◌≡◌, ◌∷◌, [], IfSome};
+ghost use Rattle.std.specs.Prelude.{◌≡◌, ◌∷◌, [], take, IfSome};
 ghost use Rattle.poly_mixed.specs.Cofactor.{cofactors, lacking};
 ghost use Rattle.rato_reduce.specs.private.CutTerms.{IsBitTerm};
-ghost use Rattle.rato_reduce.specs.private.Rows.{line_at, product_of};
+ghost use Rattle.rato_reduce.specs.private.Rows.{bits_at, line_at, product_of};
 
 use crate::row::{Row, bits_of, hash_of};
 
@@ -19,23 +19,14 @@ pub struct Term<'a> {
     pub coefficient: u64,
 }
 
-// The place of a bit among rising ones that have it, looked for from the end: of the bits of a term those of gates stand last.
-fn place_in(bits: &[u32], rank: u32) -> usize {
-    let mut behind = bits.len();
-    while behind > 0 && bits[behind - 1] > rank {
-        behind -= 1;
-    }
-    behind.saturating_sub(1)
-}
-
-/// The term of a row without a bit, if it has it.
-pub fn term_without<'a>(ranks: &'a [u32], row: &Row, rank: u32) -> Option<Term<'a>>
+/// The term of a row without a bit, if that is the one at a place among its bits.
+pub fn term_without<'a>(ranks: &'a [u32], row: &Row, rank: u32, place: usize) -> Option<Term<'a>>
     requires { IsBitTerm (line_at ranks.now row.now) }
     ensures without { IfSome result (λ t. product_of t [] ∷ [] ≡ cofactors rank (line_at ranks.now row.now ∷ [])) }
     ensures has { IfSome result (λ _. lacking rank (line_at ranks.now row.now ∷ []) ≡ []) }
+    ensures front { IfSome result (λ t. t.front.now ≡ take place (bits_at ranks.now row.now)) }
 {
     let bits = bits_of(ranks, row);
-    let place = place_in(bits, rank);
     if place >= bits.len() {
         return None;
     }

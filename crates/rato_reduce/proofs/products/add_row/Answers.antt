@@ -1,6 +1,7 @@
-use Rattle.std.proofs.Common.{[], ◌∷◌, sym, subst}
+use Rattle.std.proofs.Common.{ℕ, List, [], ◌∷◌, take, sym, ◌∙◌, ap, subst}
 use Rattle.std.specs.List.{AllByRecursion}
 use Rattle.poly_mixed.specs.Polynomial.{Terms}
+use Rattle.rato_reduce.specs.private.Buckets.{AreUpTo}
 use Rattle.rato_reduce.specs.private.CutTerms.{IsBitTerm}
 use Rattle.rato_reduce.specs.private.Pairs.{pair_sets}
 use Rattle.rato_reduce.specs.private.Rows.{line_at, product_of}
@@ -12,6 +13,11 @@ pub add_pair-requires-clause-term : goal.add_pair-requires-clause-term
 add_pair-requires-clause-term c =
     let P : Terms → Type 0 = AllByRecursion IsBitTerm in
     (subst P (sym c.in-Some.ensures.without) (cofactor_terms c.args.rank (line_at c.args.ranks.now c.args.row.now ∷ []) (c.requires.term, tt))).0
+
+pub add_pair-requires-clause-front : goal.add_pair-requires-clause-front
+add_pair-requires-clause-front c =
+    let P : List ℕ → Type 0 = AreUpTo c.args.cut.now.places c.level_below-place.result.1 in
+    subst P (ap (take c.level_below-place.result.0) c.bits_of-bits.ensures ∙ sym c.in-Some.ensures.front) c.level_below-place.ensures.up_to
 
 pub returns-in_ok-add_pair-in-Some-clause-put : goal.returns-in_ok-add_pair-in-Some-clause-put
 returns-in_ok-add_pair-in-Some-clause-put c =

@@ -10,7 +10,7 @@ use Rattle.rato_reduce.proofs.term.term_without.Goals as goal
 pub returns-then-here-rank-clause-without : goal.returns-then-here-rank-clause-without
 returns-then-here-rank-clause-without c =
     let bits : List ℕ = c.bits_of-bits.result.now in
-    let place = c.place_in-place.result in
+    let place = c.args.place in
     let k = c.args.row.now.coefficient in
     let P : List ℕ → Type 0 = IsStrictlySortedBy nat_cmp in
     let rising : IsStrictlySortedBy nat_cmp bits = subst P (sym c.bits_of-bits.ensures) c.requires.rising in
@@ -21,9 +21,12 @@ returns-then-here-rank-clause-without c =
 pub returns-then-here-rank-clause-has : goal.returns-then-here-rank-clause-has
 returns-then-here-rank-clause-has c =
     let bits : List ℕ = c.bits_of-bits.result.now in
-    let place = c.place_in-place.result in
+    let place = c.args.place in
     let k = c.args.row.now.coefficient in
     let P : List ℕ → Type 0 = IsStrictlySortedBy nat_cmp in
     let rising : IsStrictlySortedBy nat_cmp bits = subst P (sym c.bits_of-bits.ensures) c.requires.rising in
     ap (λ (rs : List ℕ). lacking c.args.rank ((of_bits rs, k) ∷ [])) (sym c.bits_of-bits.ensures)
     ∙ has_the_bit c.args.rank k bits place rising (omega arith) c.if-here-rank.true
+
+pub returns-then-here-rank-clause-front : goal.returns-then-here-rank-clause-front
+returns-then-here-rank-clause-front c = ap (take c.args.place) c.bits_of-bits.ensures
