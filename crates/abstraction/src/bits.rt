@@ -10,13 +10,13 @@ ghost use Rattle.stage_model.specs.OutputInBits.{IsOutputInBits};
 ghost use Rattle.word_subst.specs.WordStages.{IsOfNoWords};
 ghost use Rattle.abstraction.specs.Stages.{cut_stages, HasCutPairs, IsLastCut};
 
-use circuit_model::output_basis;
+use crate::terms::bits_terms;
 use gf_basis::Basis;
 use gf_field::Field;
 use net_words::Combinational;
 use poly_mixed::{Poly, ReduceFault, Steps};
-use rato_reduce::reduce_bits;
 use std::alloc::Global;
+use word_subst::poly_of;
 
 /// The polynomial of a circuit's output in the bits of its words, or the first cut of more than `bound` terms. There is one
 /// basis of this field for each word of the binding, and each word has k bits. The recorder gets the steps of the
@@ -42,9 +42,10 @@ pub fn bits_poly<F: Field, T: Steps>(
     ensures steps { OnOk result (HasCutPairs (F.degree field.now) (F.product field.now) circuit.now (map elements_of bases.now) (T.steps steps.old) (T.steps steps.new)) }
     ensures fault { IfErr result (IsRefusal (F.degree field.now) (F.product field.now) (cut_stages circuit.now (map elements_of bases.now)) bound) }
 {
-    let basis = output_basis(circuit.binding(), bases);
-    match reduce_bits(alloc, field, circuit, basis, bound, steps) {
-        Ok(poly) => Ok(poly),
-        Err(fault) => Err(fault),
-    }
+    let terms = match bits_terms(alloc, field, circuit, bases, bound, steps) {
+        Ok(terms) => terms,
+        Err(fault) => return Err(fault),
+    };
+    let poly = poly_of(alloc, &terms)?;
+    Ok(poly)
 }

@@ -4,8 +4,10 @@
 
 mod bits;
 mod poly;
+mod terms;
 mod words;
 
 pub use bits::bits_poly;
 pub use poly::circuit_poly;
+pub use terms::bits_terms;
 pub use words::words_poly;

@@ -5,7 +5,7 @@ ghost use Rattle.stage_model.specs.Listing.{AreAllWithin};
 ghost use Rattle.stage_model.specs.OutputInWords.{IsOutputInWords};
 ghost use Rattle.abstraction.specs.Stages.{stages_in, IsFirstRefusal};
 
-use crate::bits::bits_poly;
+use crate::terms::bits_terms;
 use crate::words::words_poly;
 use gf_basis::Basis;
 use gf_field::Field;
@@ -28,7 +28,7 @@ pub fn circuit_poly<F: Field>(
     ensures within { OnOk result (AreAllWithin (F.degree field.now) (F.product field.now) (stages_in (F.degree field.now) (F.product field.now) circuit.now bases.now) bound) }
     ensures fault { IfErr result (IsFirstRefusal (F.degree field.now) (F.product field.now) (stages_in (F.degree field.now) (F.product field.now) circuit.now bases.now) bound) }
 {
-    let bits = match bits_poly(alloc, field, circuit, bases, bound, &mut NoSteps) {
+    let bits = match bits_terms(alloc, field, circuit, bases, bound, &mut NoSteps) {
         Ok(bits) => bits,
         Err(fault) => return Err(fault),
     };

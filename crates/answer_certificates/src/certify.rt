@@ -7,7 +7,7 @@ ghost use Rattle.answer_certificates.specs.Certify.{CertifyReply, CertifyAnswerT
 ghost use Rattle.answer_core.specs.Replies.{Replies};
 
 use crate::certificates::certificate_labels;
-use answer_core::{Output, in_words, last_cut, stage_stop};
+use answer_core::{Output, in_words, last_terms, stage_stop};
 use cert_make::Certificate;
 use gf_field::Field;
 use job_input::{Setting, read_circuit};
@@ -49,7 +49,7 @@ fn reply<F: Field>(
 {
     let labels = certificate_labels(alloc, field, setting, circuit)?;
     let mut certificate = Certificate::new(alloc);
-    let bits = match last_cut(alloc, field, setting, circuit, bound, &mut certificate) {
+    let bits = match last_terms(alloc, field, setting, circuit, bound, &mut certificate) {
         Ok(bits) => bits,
         Err(fault) => return Err(stage_stop(alloc, &labels, fault, bound)),
     };

@@ -1,7 +1,6 @@
 //! A circuit's output beside a specification of it.
-ghost use Rattle.std.specs.Prelude.{◌≡◌, length, IfOk};
+ghost use Rattle.std.specs.Prelude.{◌≡◌, length};
 ghost use Rattle.outcome.specs.Outcome.{Within};
-ghost use Rattle.poly_mixed.specs.Polynomial.{IsReduced};
 ghost use Rattle.circuit_model.specs.WellFormed.{IsWellFormed};
 ghost use Rattle.stage_model.specs.OutputInBits.{IsOutputInBits};
 ghost use Rattle.spec_expand.specs.Specification.{IsOverWords};
@@ -20,7 +19,7 @@ use net_words::Combinational;
 use poly_mixed::{Labels, Poly};
 use spec_compare::{Verdict, compare};
 use spec_expand::{Spec, expand};
-use std::alloc::{AllocError, Global};
+use std::alloc::Global;
 
 /// The verdict on the output and the specification, or the first stage of the specification of more than `bound` terms.
 pub fn verdict<F: Field>(
@@ -48,14 +47,4 @@ pub fn verdict<F: Field>(
     };
     let verdict = compare(alloc, field, circuit, bases, bits, &expansion)?;
     Ok(verdict)
-}
-
-/// A copy of a polynomial.
-pub fn copied<F: Field>(alloc: Global, field: &F, poly: &Poly) -> Result<Poly, AllocError>
-    requires { IsReduced (F.degree field.now) poly.now.terms }
-    ensures { IfOk result (λ copy. copy.terms ≡ poly.now.terms) }
-{
-    let mut copy = Poly::zero(alloc);
-    copy.add_into(field, poly)?;
-    Ok(copy)
 }

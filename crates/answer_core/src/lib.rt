@@ -2,6 +2,7 @@
 //! polynomials of a circuit's output, the lines of a differing input, and why no output comes of a stage.
 #![tactic(auto)]
 
+mod cut_terms;
 mod cuts;
 mod differing;
 mod judged;
@@ -12,9 +13,10 @@ mod simpler;
 mod stages;
 mod words;
 
+pub use cut_terms::last_terms;
 pub use cuts::last_cut;
 pub use differing::{add_difference, add_word};
-pub use judged::{copied, verdict};
+pub use judged::verdict;
 pub use line::polynomial_line;
 pub use output::Output;
 pub use setting_labels::labels;

@@ -11,17 +11,17 @@ use abstraction::words_poly;
 use gf_field::Field;
 use job_input::Setting;
 use net_words::Combinational;
-use poly_mixed::{Poly, ReduceFault, Steps};
+use poly_mixed::{Poly, ReduceFault, Steps, Term};
 use std::alloc::Global;
 
-/// The polynomial of a circuit's output in its words, out of that in their bits, or the first stage of words of more than
-/// `bound` terms. The recorder gets the steps of the replacement.
+/// The polynomial of a circuit's output in its words, out of the terms of that in their bits, or the first stage of words of more
+/// than `bound` terms. The recorder gets the steps of the replacement.
 pub fn in_words<F: Field, T: Steps>(
     alloc: Global,
     field: &F,
     setting: &Setting,
     circuit: &Combinational,
-    bits: Poly,
+    bits: Vec<Term>,
     bound: u32,
     steps: &mut T,
 ) -> Result<Poly, ReduceFault>
@@ -29,8 +29,8 @@ pub fn in_words<F: Field, T: Steps>(
     requires taken { IsTakenFor (F.degree field.now) setting.now circuit.now }
     requires sound { IsSound circuit.now.net }
     requires is_bound { IsOneCycle circuit.now.net circuit.now.binding }
-    requires bits { IsInNoWords (setting_value (F.degree field.now) (F.product field.now) setting.now) circuit.now bits.terms }
-    requires few { length bits.terms < 2 ^ 32 }
+    requires bits { IsInNoWords (setting_value (F.degree field.now) (F.product field.now) setting.now) circuit.now bits.items }
+    requires few { length bits.items < 2 ^ 32 }
     ensures words { IfOk result (λ poly. IsInWords (setting_value (F.degree field.now) (F.product field.now) setting.now) circuit.now poly.terms) }
     ensures named { IfOk result (λ poly. HasNames (labels_of (F.degree field.now) setting.now.signature.words) poly.terms) }
     ensures words_named { IfOk result (λ poly. HasWordNames (labels_of (F.degree field.now) setting.now.signature.words) poly.terms) }

@@ -13,9 +13,7 @@ ghost use Rattle.answer_core.specs.Abstraction.{taken_circuit};
 ghost use Rattle.answer_core.specs.Replies.{RepliesAlone};
 ghost use Rattle.answer_makers.specs.Trial.{MissesSpecification, TermsOf, TrialAnswer, TrialBesideTo, TrialOver, TrialReplyTo, trial_head_over as head_of_trial};
 
-use answer_core::{
-    Output, add_difference, copied, in_words, labels, last_cut, stage_stop, verdict,
-};
+use answer_core::{Output, add_difference, in_words, labels, last_cut, stage_stop, verdict};
 use gf_field::{Field, Ring2k};
 use irreducible::Proved;
 use job_input::{Setting, field_of_modulus};
@@ -102,8 +100,8 @@ fn count_words<F: Field>(
         Ok(bits) => bits,
         Err(fault) => return Err(stage_stop(alloc, labels, fault, bound)),
     };
-    let copy = copied(alloc, field, &bits)?;
-    let poly = match in_words(alloc, field, setting, circuit, copy, bound, &mut NoSteps) {
+    let list = bits.terms(alloc)?;
+    let poly = match in_words(alloc, field, setting, circuit, list, bound, &mut NoSteps) {
         Ok(poly) => poly,
         Err(fault) => return Err(stage_stop(alloc, labels, fault, bound)),
     };

@@ -4,7 +4,9 @@ ghost use Rattle.job_input.specs.Setting.{setting_value, IsReady, IsTakenFor};
 ghost use Rattle.answer_core.specs.Replies.{Replies, RepliesAlone};
 ghost use Rattle.answer_polynomials.specs.Abstract.{AbstractReply, AbstractAnswerTo};
 
-use answer_core::{Output, in_words, labels, last_cut, polynomial_line, read_simpler, stage_stop};
+use answer_core::{
+    Output, in_words, labels, last_terms, polynomial_line, read_simpler, stage_stop,
+};
 use gf_field::Field;
 use job_input::Setting;
 use job_io::Shelf;
@@ -52,7 +54,7 @@ fn reply<F: Field>(
     ensures { RepliesAlone result (AbstractReply (setting_value (F.degree field.now) (F.product field.now) setting.now) circuit.now bound) }
 {
     let labels = labels(alloc, field, setting)?;
-    let bits = match last_cut(alloc, field, setting, circuit, bound, &mut NoSteps) {
+    let bits = match last_terms(alloc, field, setting, circuit, bound, &mut NoSteps) {
         Ok(bits) => bits,
         Err(fault) => return Err(stage_stop(alloc, &labels, fault, bound)),
     };

@@ -14,7 +14,7 @@ ghost use Rattle.answer_core.specs.Abstraction.{taken_circuit};
 ghost use Rattle.answer_polynomials.specs.Check.{WordsLine, CheckBeside, CheckReply, CheckAfterBoth, CheckAfter, CheckAnswerTo, check_reply, rejected_lines};
 
 use answer_core::{
-    Output, add_difference, copied, in_words, labels, last_cut, polynomial_line, stage_stop,
+    Output, add_difference, in_words, labels, last_cut, polynomial_line, stage_stop,
     unroll_simpler, verdict,
 };
 use gf_field::Field;
@@ -141,8 +141,8 @@ fn print_words<F: Field>(
         Ok(bits) => bits,
         Err(fault) => return Err(stage_stop(alloc, labels, fault, bound)),
     };
-    let copy = copied(alloc, field, &bits)?;
-    let poly = match in_words(alloc, field, setting, circuit, copy, bound, &mut NoSteps) {
+    let list = bits.terms(alloc)?;
+    let poly = match in_words(alloc, field, setting, circuit, list, bound, &mut NoSteps) {
         Ok(poly) => poly,
         Err(fault) => return Err(stage_stop(alloc, labels, fault, bound)),
     };

@@ -15,3 +15,4 @@ pub mod Multiple
 pub mod Prefix
 pub mod Spread
 pub mod Rest
+pub mod private

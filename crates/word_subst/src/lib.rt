@@ -4,7 +4,9 @@
 
 mod at_once;
 mod forms;
+mod held;
 mod laws;
+mod listed;
 mod multiple;
 mod product;
 mod products;
@@ -18,4 +20,5 @@ mod word;
 mod words;
 
 pub use laws::{all_words_are_the_output, bases_make_a_circuit, last_cut_is_taken};
+pub use listed::poly_of;
 pub use words::to_words;

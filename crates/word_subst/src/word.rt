@@ -115,7 +115,7 @@ fn term_by_term<F: Field, T: Steps>(
     Ok(poly)
 }
 
-/// The sum of all terms of a polynomial, with their bits of the word read from the word, term by term in the order of a
+/// The sum of the terms of a polynomial, with their bits of the word read from the word, term by term in the order of a
 /// text. The recorder gets the pairs of the terms. The fault is the first stage of more than `bound` terms, the products of
 /// a term before the sum with it.
 pub fn one_word<F: Field, T: Steps>(
@@ -123,30 +123,29 @@ pub fn one_word<F: Field, T: Steps>(
     field: &F,
     basis: &Basis,
     word: u32,
-    bits: &Poly,
+    terms: &[Term],
     bound: u32,
     steps: &mut T,
 ) -> Result<Poly, ReduceFault>
     requires over { IsBasisOver (F.degree field.now) (F.product field.now) basis.now }
     requires word { word < 8 }
-    requires bits { IsReduced (F.degree field.now) bits.now.terms }
-    requires few { length bits.now.terms < 2 ^ 32 }
-    ensures sum { IfOk result (λ q. IsSumOf (F.degree field.now) (F.product field.now) (elements_of basis.now) word bits.now.terms (length bits.now.terms) q.terms) }
+    requires terms { IsReduced (F.degree field.now) terms.now }
+    requires few { length terms.now < 2 ^ 32 }
+    ensures sum { IfOk result (λ q. IsSumOf (F.degree field.now) (F.product field.now) (elements_of basis.now) word terms.now (length terms.now) q.terms) }
     ensures small { IfOk result (λ q. length q.terms ≤ bound) }
-    ensures within { OnOk result (AreTermsWithin (F.degree field.now) (F.product field.now) (elements_of basis.now) word bits.now.terms (length bits.now.terms) bound) }
-    ensures fault { IfErr result (IsWordRefusal (F.degree field.now) (F.product field.now) (elements_of basis.now) word bits.now.terms bound) }
-    ensures steps { OnOk result (TellsTerms (F.degree field.now) (F.product field.now) (elements_of basis.now) word bits.now.terms (T.steps steps.old) (T.steps steps.new)) }
+    ensures within { OnOk result (AreTermsWithin (F.degree field.now) (F.product field.now) (elements_of basis.now) word terms.now (length terms.now) bound) }
+    ensures fault { IfErr result (IsWordRefusal (F.degree field.now) (F.product field.now) (elements_of basis.now) word terms.now bound) }
+    ensures steps { OnOk result (TellsTerms (F.degree field.now) (F.product field.now) (elements_of basis.now) word terms.now (T.steps steps.old) (T.steps steps.new)) }
 {
-    let terms = bits.terms(alloc)?;
     if !steps.tells() {
-        if let Some(poly) = at_once(alloc, field, basis, word, &terms, bound)? {
+        if let Some(poly) = at_once(alloc, field, basis, word, terms, bound)? {
             return Ok(poly);
         }
     }
-    if let Some(poly) = whole(alloc, field, basis, word, &terms, bound)? {
-        tell_firsts(alloc, field, basis, word, &terms, steps)?;
+    if let Some(poly) = whole(alloc, field, basis, word, terms, bound)? {
+        tell_firsts(alloc, field, basis, word, terms, steps)?;
         return Ok(poly);
     }
-    let poly = term_by_term(alloc, field, basis, word, &terms, bound, steps)?;
+    let poly = term_by_term(alloc, field, basis, word, terms, bound, steps)?;
     Ok(poly)
 }

@@ -6,7 +6,7 @@ ghost use Rattle.poly_mixed.specs.Polynomial.{IsReduced};
 ghost use Rattle.circuit_model.specs.Flat.{AreOver};
 ghost use Rattle.job_input.specs.Setting.{AreBasesOver};
 
-use abstraction::{bits_poly, words_poly};
+use abstraction::{bits_terms, words_poly};
 use circuit_model::{CircuitWord, output, output_basis};
 use gf_basis::Basis;
 use gf_field::{Field, first_outside, is_element};
@@ -49,7 +49,7 @@ fn in_words<F: Field>(
     requires long { length bases.now ≡ length circuit.now.binding.words }
     ensures { IfOk result (λ q. IsReduced (F.degree field.now) q.terms) }
 {
-    let bits = match bits_poly(alloc, field, circuit, bases, u32::MAX, &mut NoSteps) {
+    let bits = match bits_terms(alloc, field, circuit, bases, u32::MAX, &mut NoSteps) {
         Ok(bits) => bits,
         Err(fault) => return Err(fault),
     };

@@ -11,7 +11,7 @@ use Rattle.abstraction.proofs.poly.circuit_poly.Goals as goal
 
 pub words_poly-requires-clause-few : goal.words_poly-requires-clause-few
 words_poly-requires-clause-few g c =
-    let small : length c.in-Ok.bits.terms ≤ c.args.bound = c.in-Ok.ensures.few in
+    let small : length c.in-Ok.bits.items ≤ c.args.bound = c.in-Ok.ensures.few in
     omega (arith, small, c.ranges.bound.fits)
 
 pub returns-in-Err-clause-fault : goal.returns-in-Err-clause-fault

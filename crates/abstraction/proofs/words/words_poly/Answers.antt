@@ -18,7 +18,7 @@ to_words-requires-clause-bits g c =
     let circuit : BoundNet = c.args.circuit.now in
     let bases : List Basis = c.args.bases.now in
     let well = is_well_formed k mul circuit bases c.requires.bases ring free c.binding-netlist.ensures.sound c.binding-netlist.ensures.is_bound c.requires.k in
-    no_words_in_bits (circuit_in k mul circuit bases) well c.binding-netlist.ensures.flat c.args.bits.terms c.requires.bits
+    no_words_in_bits (circuit_in k mul circuit bases) well c.binding-netlist.ensures.flat c.args.bits.items c.requires.bits
 
 pub returns-in-Ok-clause-words : goal.returns-in-Ok-clause-words
 returns-in-Ok-clause-words g c = c.in-Ok.ensures.words.is c.requires.bits
@@ -43,4 +43,4 @@ returns-in-Ok-clause-steps g c = c.in-Ok.ensures.steps.are c.requires.bits
 pub returns-in-Err-clause-fault : goal.returns-in-Err-clause-fault
 returns-in-Err-clause-fault g c =
     let circuit : Circuit = circuit_in (g.F.Ring.degree c.args.field.now) (g.F.Ring.product c.args.field.now) c.args.circuit.now c.args.bases.now in
-    stage_refused circuit c.args.bits.terms c.args.bound c.in-Err.fault c.requires.bits c.in-Err.ensures.fault
+    stage_refused circuit c.args.bits.items c.args.bound c.in-Err.fault c.requires.bits c.in-Err.ensures.fault

@@ -41,14 +41,14 @@ returns-in-Err g c =
     (earlier_refused degree mul view c.args.bound (IsCertificateText setting circuit) (bits_stages setting circuit) (word_listing (taken_circuit setting circuit)) (certificate_labels setting circuit) c.in-Err.fault c.stage_stop.result c.in-Err.ensures.fault (subst S c.in_ok-labels.ensures.labels c.stage_stop.ensures))
 
 pub in_words-requires-clause-sound : goal.in_words-requires-clause-sound
-in_words-requires-clause-sound g c = c.last_cut.ensures.sound
+in_words-requires-clause-sound g c = c.last_terms.ensures.sound
 
 pub in_words-requires-clause-is_bound : goal.in_words-requires-clause-is_bound
-in_words-requires-clause-is_bound g c = c.last_cut.ensures.is_bound
+in_words-requires-clause-is_bound g c = c.last_terms.ensures.is_bound
 
 pub in_words-requires-clause-few : goal.in_words-requires-clause-few
 in_words-requires-clause-few g c =
-    let small : length c.in-Ok.bits.terms ≤ c.args.bound = c.in-Ok.ensures.few in
+    let small : length c.in-Ok.bits.items ≤ c.args.bound = c.in-Ok.ensures.few in
     omega (arith, small, c.ranges.bound.fits)
 
 pub stage_stop-requires-in-Err-in_words : goal.stage_stop-requires-in-Err-in_words
@@ -78,7 +78,7 @@ write-requires g c =
     let circuit = c.args.circuit.now in
     let setting = c.args.setting.now in
     let job : IsJob degree mul circuit setting.bases.items = record { ring = g.met.F.Ring.laws c.args.field.now; nozero = g.met.F.Field.no_zero_divisors c.args.field.now; sound = c.certificate_labels.ensures.sound; bound = c.certificate_labels.ensures.is_bound; flat = c.certificate_labels.ensures.is_bound.flat.latches; same = c.requires.taken.bits; over = c.requires.ready.over; long = c.requires.taken.long } in
-    let is = is_certificate degree mul setting c.requires.ready circuit c.requires.taken job c.in-Ok-in_words.claim.terms c.new-certificate.result c.last_cut.new.steps c.in_words.new.steps c.new-certificate.ensures c.in-Ok.ensures.steps c.in-Ok-in_words.ensures.steps c.in-Ok-in_words.ensures.words in
+    let is = is_certificate degree mul setting c.requires.ready circuit c.requires.taken job c.in-Ok-in_words.claim.terms c.new-certificate.result c.last_terms.new.steps c.in_words.new.steps c.new-certificate.ensures c.in-Ok.ensures.steps c.in-Ok-in_words.ensures.steps c.in-Ok-in_words.ensures.words in
     let few : nets circuit.net ≤ 2 ^ 32 = omega (arith, c.certificate_labels.ensures.sound.inside.few_nets) in
     let P : Labelling → Type 0 = λ l. IsWritable l degree c.in-Ok-in_words.claim.terms c.in_words.new.steps in
     (degree, subst P (sym c.in_ok-labels.ensures.labels) (can_be_written degree mul setting c.requires.ready circuit c.requires.taken job few c.in-Ok-in_words.claim.terms c.in_words.new.steps is))
@@ -93,7 +93,7 @@ returns g c =
     let job : IsJob degree mul circuit setting.bases.items = record { ring = g.met.F.Ring.laws c.args.field.now; nozero = g.met.F.Field.no_zero_divisors c.args.field.now; sound = c.certificate_labels.ensures.sound; bound = c.certificate_labels.ensures.is_bound; flat = c.certificate_labels.ensures.is_bound.flat.latches; same = c.requires.taken.bits; over = c.requires.ready.over; long = c.requires.taken.long } in
     let claim = c.in-Ok-in_words.claim.terms in
     let pairs = c.in_words.new.steps in
-    let is = is_certificate degree mul setting c.requires.ready circuit c.requires.taken job claim c.new-certificate.result c.last_cut.new.steps pairs c.new-certificate.ensures c.in-Ok.ensures.steps c.in-Ok-in_words.ensures.steps c.in-Ok-in_words.ensures.words in
+    let is = is_certificate degree mul setting c.requires.ready circuit c.requires.taken job claim c.new-certificate.result c.last_terms.new.steps pairs c.new-certificate.ensures c.in-Ok.ensures.steps c.in-Ok-in_words.ensures.steps c.in-Ok-in_words.ensures.words in
     let text = c.in_ok-text.text.items in (
       text,
       (

@@ -21,7 +21,7 @@ pub words_poly-requires-clause-bits : goal.words_poly-requires-clause-bits
 words_poly-requires-clause-bits g c =
     let degree = g.F.Ring.degree c.args.field.now in
     let mul = g.F.Ring.product c.args.field.now in
-    let P : List Basis → Type 0 = λ bases. IsOfStage degree mul (IsMix (circuit_in degree mul c.args.circuit.now bases) 0) c.args.bits.terms in
+    let P : List Basis → Type 0 = λ bases. IsOfStage degree mul (IsMix (circuit_in degree mul c.args.circuit.now bases) 0) c.args.bits.items in
     subst P (sym c.as_slice-bases.ensures.value) c.requires.bits
 
 pub returns-in-Ok-clause-words : goal.returns-in-Ok-clause-words

@@ -37,9 +37,6 @@ returns-in-Err-clause-gives g c =
     stops {Y = Counted} view (λ counted. counted.terms) c.stage_stop.result (Within faults.Stage (AbstractOf setting circuit c.args.bound)) (λ ts. Exactly (length ts)) ⊥ ⊥ ⊥ ⊥ (λ m. m) (λ f. f)
     (earlier_refused degree mul view c.args.bound (IsInWords setting circuit) (bits_stages setting circuit) (word_listing (taken_circuit setting circuit)) (labels_of degree c.args.setting.now.signature.words) c.in-Err.fault c.stage_stop.result c.in-Err.ensures.fault (subst S c.requires.labels c.stage_stop.ensures))
 
-pub copied-requires : goal.copied-requires
-copied-requires g c = c.in-Ok.ensures.output.reduced
-
 pub in_words-requires-clause-sound : goal.in_words-requires-clause-sound
 in_words-requires-clause-sound g c = c.last_cut.ensures.sound
 
@@ -51,11 +48,11 @@ in_words-requires-clause-bits g c =
     let degree = g.F.Ring.degree c.args.field.now in
     let mul = g.F.Ring.product c.args.field.now in
     let P : Terms → Type 0 = λ ts. IsOfStage degree mul (IsMix (taken_circuit (setting_value degree mul c.args.setting.now) c.args.circuit.now) 0) ts in
-    subst P (sym c.in_ok-copy.ensures) c.in-Ok.ensures.mix
+    subst P (sym c.in_ok-list.ensures) c.in-Ok.ensures.mix
 
 pub in_words-requires-clause-few : goal.in_words-requires-clause-few
 in_words-requires-clause-few g c =
-    let same : length c.in_ok-copy.copy.terms ≡ length c.in-Ok.bits.terms = ap (λ (ts : Terms). length ts) c.in_ok-copy.ensures in
+    let same : length c.in_ok-list.list.items ≡ length c.in-Ok.bits.terms = ap (λ (ts : Terms). length ts) c.in_ok-list.ensures in
     let small : length c.in-Ok.bits.terms ≤ c.args.bound = c.in-Ok.ensures.few in
     omega (arith, same, small, c.ranges.bound.fits)
 

@@ -38,14 +38,14 @@ returns-in-Err g c =
     (subst S c.in_ok-labels.ensures c.stage_stop.ensures))
 
 pub in_words-requires-clause-sound : goal.in_words-requires-clause-sound
-in_words-requires-clause-sound g c = c.last_cut.ensures.sound
+in_words-requires-clause-sound g c = c.last_terms.ensures.sound
 
 pub in_words-requires-clause-is_bound : goal.in_words-requires-clause-is_bound
-in_words-requires-clause-is_bound g c = c.last_cut.ensures.is_bound
+in_words-requires-clause-is_bound g c = c.last_terms.ensures.is_bound
 
 pub in_words-requires-clause-few : goal.in_words-requires-clause-few
 in_words-requires-clause-few g c =
-    let small : length c.in-Ok.bits.terms ≤ c.args.bound = c.in-Ok.ensures.few in
+    let small : length c.in-Ok.bits.items ≤ c.args.bound = c.in-Ok.ensures.few in
     omega (arith, small, c.ranges.bound.fits)
 
 pub stage_stop-requires-in-Err-in_words : goal.stage_stop-requires-in-Err-in_words
