@@ -18,9 +18,9 @@ use poly_mixed::{ReduceFault, Steps, Term};
 use rato_reduce::reduce_bits;
 use std::alloc::Global;
 
-/// The terms of the polynomial of a circuit's output in the bits of its words, in the order of a text, or the first cut of more
-/// than `bound` terms. There is one basis of this field for each word of the binding, and each word has k bits. The recorder
-/// gets the steps of the elimination.
+/// The terms of the polynomial of a circuit's output in the bits of its words, in the order of a text, or the first cut of
+/// more than `bound` terms. There is one basis of this field for each word of the binding, and each word has k bits. The
+/// recorder gets the steps of the elimination.
 pub fn bits_terms<F: Field, T: Steps>(
     alloc: Global,
     field: &F,

@@ -12,9 +12,9 @@ use poly_mixed::{Poly, ReduceFault, Steps, Term};
 use std::alloc::Global;
 use word_subst::to_words;
 
-/// The polynomial of a circuit's output in its words, out of the terms of that in their bits, or the first stage of words of more
-/// than `bound` terms. There is one basis of this field for each word of the binding, and each word has k bits. The recorder gets
-/// the steps of the replacement.
+/// The polynomial of a circuit's output in its words, out of the terms of that in their bits, or the first stage of words of
+/// more than `bound` terms. There is one basis of this field for each word of the binding, and each word has k bits. The
+/// recorder gets the steps of the replacement.
 pub fn words_poly<F: Field, T: Steps>(
     alloc: Global,
     field: &F,

@@ -16,8 +16,8 @@ use net_words::Combinational;
 use poly_mixed::{ReduceFault, Steps, Term};
 use std::alloc::Global;
 
-/// The terms of the polynomial of a circuit's output in the bits of its words, in the order of a text, or the first cut of more
-/// than `bound` terms. The recorder gets the steps of the elimination.
+/// The terms of the polynomial of a circuit's output in the bits of its words, in the order of a text, or the first cut of
+/// more than `bound` terms. The recorder gets the steps of the elimination.
 pub fn last_terms<F: Field, T: Steps>(
     alloc: Global,
     field: &F,

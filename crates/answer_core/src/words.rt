@@ -14,8 +14,8 @@ use net_words::Combinational;
 use poly_mixed::{Poly, ReduceFault, Steps, Term};
 use std::alloc::Global;
 
-/// The polynomial of a circuit's output in its words, out of the terms of that in their bits, or the first stage of words of more
-/// than `bound` terms. The recorder gets the steps of the replacement.
+/// The polynomial of a circuit's output in its words, out of the terms of that in their bits, or the first stage of words of
+/// more than `bound` terms. The recorder gets the steps of the replacement.
 pub fn in_words<F: Field, T: Steps>(
     alloc: Global,
     field: &F,
