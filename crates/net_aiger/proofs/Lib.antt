@@ -1,7 +1,9 @@
 pub mod PortOrder
 mod NumberLemmas
 pub mod NameLemmas
+mod AloneLemmas
 mod UnnamedLemmas
+mod SharedLemmas
 pub mod MakeLemmas
 pub mod AwaitLemmas
 pub mod DriveLemmas

@@ -1,36 +1,30 @@
 -- Ports that are given no names have names of their own.
-use Rattle.std.proofs.Common.{◌≡◌, ◌∙◌, ap, sym, refl, subst, ℕ, ◌<◌, ◌≤◌, ◌+◌, ◌-◌, ◌^◌, ◌&&◌, ◌||◌, Bool, true, false, cond, List, [], ◌∷◌, ◌++◌, length, get_or, drop, not, Option, None, Some, Result, Ok, Err, arith}
-use Rattle.std.specs.Prelude.{◌==◌, is_some, nat_eq, nat_lt, unwrap_or}
+use Rattle.std.proofs.Common.{◌≡◌, ◌∙◌, ap, sym, refl, ℕ, ◌<◌, ◌≤◌, ◌+◌, ◌-◌, ◌^◌, ◌&&◌, Bool, true, false, cond, List, [], ◌∷◌, length, get_or, drop, not, Option, None, Some, Ok, arith}
+use Rattle.std.specs.Prelude.{is_some, nat_eq, nat_lt, unwrap_or}
 use Rattle.std.specs.Fmt.{decimal}
-use Rattle.std.specs.List.{list_any}
 use Rattle.std.specs.Map.{lookup}
 use Rattle.std.specs.Str.{bytes_eq}
 use Rattle.std.proofs.lemmas.Bool.{ltb-false}
 use Rattle.std.proofs.lemmas.Fmt.{decimal_injective}
-use Rattle.std.proofs.lemmas.List.Folds.{list_any-append}
 use Rattle.lists.specs.laws.BoolLaws.{both_true}
 use Rattle.lists.specs.laws.TestLaws.{other_bytes}
-use Rattle.net_aiger.specs.Checks.{apart, own, own_net}
+use Rattle.net_aiger.specs.Checks.{apart, own_net}
 use Rattle.net_aiger.specs.Reading.{Name, Reading, default_name, driven, port_name}
-use Rattle.net_aiger.specs.declared.fault.AigerFault.{AigerFault}
-use Rattle.net_aiger.specs.declared.fault.AigerFault.TheVariants.{NameTwice}
 use Rattle.net_aiger.specs.declared.reading.Header.{Header}
+use Rattle.net_aiger.specs.private.Shared.{IsAlone, first_of}
+use Rattle.net_aiger.proofs.AloneLemmas.{skipped}
 
 -- ---- a default name tells its port
 
--- the number of the first port with a letter
-abbrev first_of : Header → ℕ → ℕ
-first_of header letter = cond (letter == 105) 0 (cond (letter == 108) header.inputs (driven header))
-
 -- the letter and the number of a port's default name
-record Told (header : Header) (port : ℕ) : Type 0 where
-  letter : ℕ
-  number : ℕ
-  named : default_name header port ≡ letter ∷ decimal number
-  place : port ≡ first_of header letter + number
-  small : number ≤ port
+pub record Told (header : Header) (port : ℕ) : Type 0 where
+  pub letter : ℕ
+  pub number : ℕ
+  pub named : default_name header port ≡ letter ∷ decimal number
+  pub place : port ≡ first_of header letter + number
+  pub small : number ≤ port
 
-told : (header : Header) (port : ℕ) → Told header port
+pub told : (header : Header) (port : ℕ) → Told header port
 told header port = by (nat_lt port header.inputs) refl (nat_lt port (driven header)) refl
   where
     by : (a : Bool) → nat_lt port header.inputs ≡ a → (b : Bool) → nat_lt port (driven header) ≡ b → Told header port
@@ -76,45 +70,21 @@ not_own reading port net unnamed less small =
     by true false e = refl
     by false b e = refl
 
--- ---- names that no later port has
-
-abbrev AreNew : Header → ℕ → List Name → Type 0
-AreNew header port before = (q : ℕ) → port ≤ q → q < 2 ^ 64 → list_any (bytes_eq (default_name header q)) before ≡ false
-
-new_after : (header : Header) (port : ℕ) (before : List Name) → port < 2 ^ 64 → AreNew header port before → AreNew header (port + 1) (before ++ default_name header port ∷ [])
-new_after header port before small new q later less =
-    let first : list_any (bytes_eq (default_name header q)) before ≡ false = new q (omega (arith, later)) less in
-    let other : bytes_eq (default_name header q) (default_name header port) ≡ false = other_bytes (default_name header q) (default_name header port) (λ same. let equal = default_apart header q port less small same in omega (arith, equal, later)) in
-    list_any-append (bytes_eq (default_name header q)) before (default_name header port ∷ [])
-    ∙ (ap (λ (b : Bool). b || (bytes_eq (default_name header q) (default_name header port) || false)) first ∙ ap (λ (b : Bool). b || false) other)
-
--- ---- ports, one after another
-
--- a port whose name is new, or that is passed over
-one_apart : (reading : Reading) (port literal : ℕ) (before : List Name) (ports : List ℕ) → list_any (bytes_eq (port_name reading port)) before ≡ false
-    → apart reading (port + 1) before ports ≡ Ok tt → apart reading (port + 1) (before ++ port_name reading port ∷ []) ports ≡ Ok tt → apart reading port before (literal ∷ ports) ≡ Ok tt
-one_apart reading port literal before ports new passed named = by (is_some (own reading port literal)) (list_any (bytes_eq (port_name reading port)) before) new
-  where
-    by : (a b : Bool) → b ≡ false → ◌≡◌ {A = Result (Unit {0}) AigerFault} (cond a (apart reading (port + 1) before ports) (cond b (Err (NameTwice (port + 2))) (apart reading (port + 1) (before ++ port_name reading port ∷ []) ports))) (Ok tt)
-    by true b e = passed
-    by false true e = absurd (cc)
-    by false false e = named
+-- ---- where no port is given a name
 
 module _ (reading : Reading) (none : reading.symbols ≡ []) where
   own_name : (port : ℕ) → port_name reading port ≡ default_name reading.header port
   own_name port = ap (λ (symbols : List (ℕ × Name)). unwrap_or (lookup (nat_eq port) symbols) (default_name reading.header port)) none
 
-  apart_from : (port : ℕ) (before : List Name) (ports : List ℕ) → port + length ports < 2 ^ 64 → AreNew reading.header port before → apart reading port before ports ≡ Ok tt
-  apart_from port before [] few new = refl
-  apart_from port before (literal ∷ ports) few new =
-      let name = sym (own_name port) in
-      let P : Name → Type 0 = λ n. list_any (bytes_eq n) before ≡ false in
-      let Q : Name → Type 0 = λ n. AreNew reading.header (port + 1) (before ++ n ∷ []) in
-      one_apart reading port literal before ports
-      (subst P name (new port (omega arith) (omega (arith, few))))
-      (apart_from (port + 1) before ports (omega (arith, few)) (λ q later less. new q (omega (arith, later)) less))
-      (apart_from (port + 1) (before ++ port_name reading port ∷ []) ports (omega (arith, few)) (subst Q name (new_after reading.header port before (omega (arith, few)) new)))
+  each_alone : (port : ℕ) → port < 2 ^ 64 → IsAlone reading port
+  each_alone port small other less same = default_apart reading.header other port less small (sym (own_name other) ∙ (same ∙ own_name port))
+
+  apart_from : (port : ℕ) (ports : List ℕ) → port + length ports < 2 ^ 64 → apart reading port [] ports ≡ Ok tt
+  apart_from port [] few = refl
+  apart_from port (literal ∷ ports) few =
+      skipped reading port literal [] ports few (each_alone port (omega (arith, few))) (λ later past small alone. refl)
+      ∙ apart_from (port + 1) ports (omega (arith, few))
 
 -- where no port is given a name, no two have the same
 pub unnamed_apart : (reading : Reading) → reading.symbols ≡ [] → length reading.ports < 2 ^ 63 → apart reading 0 [] reading.ports ≡ Ok tt
-unnamed_apart reading none few = apart_from reading none 0 [] reading.ports (omega (arith, few)) (λ q later less. refl)
+unnamed_apart reading none few = apart_from reading none 0 reading.ports (omega (arith, few))

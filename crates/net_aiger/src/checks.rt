@@ -1,14 +1,16 @@
 //! What is asked of a text once it was read.
-ghost use Rattle.std.specs.Prelude.{◌≡◌, ◌⊎◌, ◌+◌, ◌<◌, ◌≤◌, ◌&&◌, ◌++◌, ◌∷◌, [], ℕ, List, Ok, Err, Some, is_some, nat_eq, true, not, IfOk, IfErr, IfSome, OnOk, length};
+ghost use Rattle.std.specs.Prelude.{◌≡◌, ◌⊎◌, ◌+◌, ◌<◌, ◌≤◌, ◌^◌, ◌&&◌, ◌++◌, ◌∷◌, [], ℕ, List, Ok, Err, Some, is_some, nat_eq, true, not, IfOk, IfErr, IfSome, OnOk, drop, length};
 ghost use Rattle.std.specs.List.{list_any};
 ghost use Rattle.std.specs.Map.{lookup};
 ghost use Rattle.std.specs.Str.{bytes_eq};
 ghost use Rattle.net_aiger.specs.Checks.{apart, is_known as knows, known, own as own_of, own_net};
-ghost use Rattle.net_aiger.specs.Reading.{driven};
+ghost use Rattle.net_aiger.specs.Reading.{driven, port_name};
+ghost use Rattle.net_aiger.specs.private.Shared.{AreNoted, HasNoneAlone};
 
 use crate::AigerFault;
 use crate::reader::{Reader, even};
 use crate::reading::Use;
+use crate::shared::PortSet;
 use indexmap::IndexSet;
 use net_core::{KeyedHash, Name};
 use std::alloc::{AllocError, Global};
@@ -129,6 +131,7 @@ impl Reader {
     // Refuses a port whose name an earlier one has, unless it is an input or a latch.
     fn check_name(&self, names: &mut NameSet, port: usize, literal: u32) -> Result<(), AigerFault>
         ensures made { OnOk result ((rest : List ℕ) → apart self.now port names.old (literal ∷ rest) ≡ apart self.now (port + 1) names.new rest) }
+        ensures grows { OnOk result ((names.new ≡ names.old) ⊎ (names.new ≡ names.old ++ port_name self.now port ∷ [])) }
         ensures fault { IfErr result (λ e. (e ≡ AigerFault.OutOfMemory) ⊎ ((rest : List ℕ) → apart self.now port names.old (literal ∷ rest) ≡ Err e)) }
     {
         if self.own(port as u64, literal)?.is_some() {
@@ -140,6 +143,29 @@ impl Reader {
         } else {
             Err(name_twice(port))
         }
+    }
+
+    // The same of one of the ports. One whose name no other has is passed over.
+    fn check_port(
+        &self,
+        shared: &PortSet,
+        names: &mut NameSet,
+        ports: &[u32],
+        port: usize,
+    ) -> Result<(), AigerFault>
+        requires shared { AreNoted self.now shared.now (length self.now.symbols) }
+        requires place { port < length ports.now }
+        requires few { length ports.now < 2 ^ 63 }
+        requires none { HasNoneAlone self.now port names.old }
+        ensures made { OnOk result (apart self.now port names.old (drop port ports.now) ≡ apart self.now (port + 1) names.new (drop (port + 1) ports.now)) }
+        ensures none { OnOk result (HasNoneAlone self.now (port + 1) names.new) }
+        ensures fault { IfErr result (λ e. (e ≡ AigerFault.OutOfMemory) ⊎ (apart self.now port names.old (drop port ports.now) ≡ Err e)) }
+    {
+        if shared.lacks(port as u64) {
+            return Ok(());
+        }
+        self.check_name(names, port, ports[port])?;
+        Ok(())
     }
 }
 
@@ -158,12 +184,20 @@ fn check_uses(reader: &Reader, uses: &[Use]) -> Result<(), AigerFault>
 }
 
 // Refuses the first port whose name an earlier one has.
-fn check_ports(reader: &Reader, names: &mut NameSet, ports: &[u32]) -> Result<(), AigerFault>
+fn check_ports(
+    reader: &Reader,
+    shared: &PortSet,
+    names: &mut NameSet,
+    ports: &[u32],
+) -> Result<(), AigerFault>
+    requires shared { AreNoted reader.now shared.now (length reader.now.symbols) }
+    requires few { length ports.now < 2 ^ 63 }
+    requires none { HasNoneAlone reader.now 0 names.old }
     ensures made { OnOk result (apart reader.now 0 names.old ports.now ≡ Ok tt) }
     ensures fault { IfErr result (λ e. (e ≡ AigerFault.OutOfMemory) ⊎ (apart reader.now 0 names.old ports.now ≡ Err e)) }
 {
-    for (port, literal) in ports.iter().enumerate() {
-        reader.check_name(names, port, *literal)?;
+    for port in 0..ports.len() {
+        reader.check_port(shared, names, ports, port)?;
     }
     Ok(())
 }
@@ -177,7 +211,7 @@ impl Reader {
     }
 
     /// Refuses the first input, latch or output with the name of an earlier one; an output that is one of them is passed over.
-    /// Where none is given a name, all are different.
+    /// Where none is given a name, all are different; else those are compared whose names another one may have.
     pub(crate) fn check_names(&self, key: u64) -> Result<(), AigerFault>
         ensures made { OnOk result (apart self.now 0 [] self.now.ports ≡ Ok tt) }
         ensures fault { IfErr result (λ e. (e ≡ AigerFault.OutOfMemory) ⊎ (apart self.now 0 [] self.now.ports ≡ Err e)) }
@@ -186,7 +220,8 @@ impl Reader {
         if self.are_unnamed() {
             return Ok(());
         }
+        let shared = self.shared_ports(key)?;
         let mut names = NameSet::new(self.alloc, key);
-        check_ports(self, &mut names, ports)
+        check_ports(self, &shared, &mut names, ports)
     }
 }

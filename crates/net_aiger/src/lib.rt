@@ -13,6 +13,7 @@ mod numbers;
 mod read;
 mod reader;
 mod reading;
+mod shared;
 
 pub use fault::AigerFault;
 pub use laws::{

@@ -1,5 +1,5 @@
 //! The reader of ASCII AIGER.
-ghost use Rattle.std.specs.Prelude.{◌≡◌, ◌⊎◌, ◌≤◌, [], Ok, Err, true, IfOk, IfErr, OnOk, length};
+ghost use Rattle.std.specs.Prelude.{◌≡◌, ◌⊎◌, ◌≤◌, Ok, Err, true, IfOk, IfErr, OnOk, length};
 ghost use Rattle.std.specs.Str.Lines.{lines};
 ghost use Rattle.net_aiger.specs.AigerNet.{AigerNet, NetOf};
 ghost use Rattle.net_aiger.specs.Sections.{Text};

@@ -1,6 +1,7 @@
 //! What was read of a text.
 ghost use Rattle.std.specs.Prelude.{◌≡◌, ◌<◌, ◌^◌, ◌++◌, [], IfOk, IfSome, drop, length, slice_get, true, Some};
 ghost use Rattle.std.specs.Fmt.{decimal};
+ghost use Rattle.std.specs.Option.{option_map};
 ghost use Rattle.net_core.specs.Inside.{IsNetName};
 ghost use Rattle.net_aiger.specs.private.Run.{ends as line_ends, is_complete as complete};
 ghost use Rattle.net_aiger.specs.Reading.{driven, default_name as name_by_default, even as even_of, net_of, port_name as name_of_port, variable_net as net_of_variable};
@@ -139,6 +140,23 @@ impl Reader {
         ensures { result ≡ true → self.now.symbols ≡ [] }
     {
         self.symbols.is_empty()
+    }
+
+    /// How many names are given.
+    pub(crate) fn symbols(&self) -> usize
+        ensures { result ≡ length self.now.symbols }
+    {
+        self.symbols.len()
+    }
+
+    /// The port that a name is given to, and the name, by its place among those that are given.
+    pub(crate) fn symbol(&self, place: usize) -> Option<(u64, &[u8])>
+        ensures { option_map (λ s. (s.0, s.1.now)) result ≡ slice_get self.now.symbols place }
+    {
+        match self.symbols.get_index(place) {
+            Some((port, name)) => Some((*port, name.as_str().as_bytes())),
+            None => None,
+        }
     }
 
     /// The literals that lines use.
