@@ -48,21 +48,21 @@ coefficient_sum ts q =
     ∙ xor_sum-plus text_cmp text_cmp-same (λ _. Unit {0}) (at text_cmp q) (at_additive text_cmp q) (λ x y _ _. tt) [] ts tt (all_unit ts)
     ∙ xor_zero_l (xor_sum (at text_cmp q) ts)
 
+pub all_rising : (us : Terms) → AllByRecursion IsBitTerm us → AllByRecursion (λ t. IsStrictlySortedBy nat_cmp t.0.bits) us
+all_rising [] all = tt
+all_rising (u ∷ us) all = (all.0.rising, all_rising us all.1)
+
+pub all_some : (us : Terms) → AllByRecursion IsBitTerm us → AllByRecursion (λ t. t.1 ≢ 0) us
+all_some [] all = tt
+all_some (u ∷ us) all = (all.0.some, all_some us all.1)
+
 -- terms without words, of rising bits and coefficients that are not 0, add up to a map
 pub sum_map_is : (old us : Terms) → IsMap old → AllByRecursion IsBitTerm us → IsMap (plus text_cmp old us)
 sum_map_is old us r all = record {
   sorted = sorted-plus text_cmp text_cmp_total old us r.sorted;
-  rising = all_plus text_cmp (λ t. IsStrictlySortedBy nat_cmp t.0.bits) (λ t u h k n. h) old us r.rising (rising us all);
-  nonzero = all_plus text_cmp (λ t. t.1 ≢ 0) (λ t u h k n. n) old us r.nonzero (some us all);
+  rising = all_plus text_cmp (λ t. IsStrictlySortedBy nat_cmp t.0.bits) (λ t u h k n. h) old us r.rising (all_rising us all);
+  nonzero = all_plus text_cmp (λ t. t.1 ≢ 0) (λ t u h k n. n) old us r.nonzero (all_some us all);
 }
-  where
-    rising : (us : Terms) → AllByRecursion IsBitTerm us → AllByRecursion (λ t. IsStrictlySortedBy nat_cmp t.0.bits) us
-    rising [] all = tt
-    rising (u ∷ us) all = (all.0.rising, rising us all.1)
-
-    some : (us : Terms) → AllByRecursion IsBitTerm us → AllByRecursion (λ t. t.1 ≢ 0) us
-    some [] all = tt
-    some (u ∷ us) all = (all.0.some, some us all.1)
 
 pub nothing_map : IsMap []
 unfolding IsStrictlySortedBy

@@ -20,7 +20,7 @@ use Rattle.rato_reduce.specs.private.Buckets.{at_monomial, coefficient_in, HaveS
 use Rattle.rato_reduce.proofs.AddedLemmas.{set_sum}
 use Rattle.rato_reduce.proofs.BucketLemmas.{same_polynomial}
 use Rattle.rato_reduce.proofs.ConstantLemmas.{constant_entries}
-use Rattle.rato_reduce.proofs.CutLemmas.{entry_terms}
+use Rattle.rato_reduce.proofs.CutLemmas.{all_rising, all_some, entry_terms}
 
 -- ---- terms in another order
 
@@ -85,14 +85,6 @@ rising_terms (t ∷ u ∷ ts) next =
     let rest : IsStrictlySortedBy text_cmp (keys_of (u ∷ ts)) = rising_terms (u ∷ ts) (next_behind t (u ∷ ts) next) in
     let first : text_cmp t.0 u.0 ≡ Less = next 0 t (omega arith) in
     ((first, all_behind t.0 u.0 (keys_of ts) first rest.0), rest)
-
-all_rising : (ts : Terms) → AllByRecursion IsBitTerm ts → AllByRecursion (λ t. IsStrictlySortedBy nat_cmp t.0.bits) ts
-all_rising [] all = tt
-all_rising (t ∷ ts) all = (all.0.rising, all_rising ts all.1)
-
-all_some : (ts : Terms) → AllByRecursion IsBitTerm ts → AllByRecursion (λ t. t.1 ≢ 0) ts
-all_some [] all = tt
-all_some (t ∷ ts) all = (all.0.some, all_some ts all.1)
 
 -- terms that were moved into the order of a text are their polynomial
 pub sorted_polynomial : (old new : Terms) → AllByRecursion IsBitTerm old → IsPermutation old new → IsStrictlySortedBy text_cmp (keys_of new) → new ≡ plus text_cmp [] old
