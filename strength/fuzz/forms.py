@@ -126,6 +126,7 @@ AIGER = [
     aiger('one number', filled(b'aag 1 1 0 1 0\n', b'0', FULL, WIRED[14:]), 0, 'Z = A'),
     aiger('lines of one input', filled(b'aag 33554420 33554420 0 0 0\n', b'2\n'), 2, 'fault 46: defined twice at line 3 in F.aag'),
     aiger('lines of outputs', times(b'aag 1 1 0 33554420 0\n', b'2\n'), 2, 'fault 38: too many nets in F.aag'),
+    aiger('lines of outputs, and a name', times(b'aag 1 1 0 33554418 0\n', b'2\n', b'o0 z\n'), 2, 'fault 38: too many nets in F.aag'),
     aiger('lines of names', times(WIRED[:-2], b'o0 z\n'), 2, 'fault 30: netlist line 6 in F.aag'),
 ]
 
