@@ -87,6 +87,16 @@ def negations(count):
     return pieces
 
 
+def shifted(count):
+    """ASCII AIGER: the given number of outputs on one net, each with the name that the next one has if it is given none."""
+    def pieces():
+        yield b'aag 1 1 0 %d 0\n2\n' % count
+        yield b'2\n' * count
+        for i in range(count):
+            yield b'o%d o%d\n' % (i, i + 1)
+    return pieces
+
+
 EMPTY = b'.end\n.model e\n.end\n'
 ASSIGNED = b'module m(input a, output z);\n  assign z = a'
 WIRED = FORMS['F.aag'][0]
@@ -127,6 +137,7 @@ AIGER = [
     aiger('lines of one input', filled(b'aag 33554420 33554420 0 0 0\n', b'2\n'), 2, 'fault 46: defined twice at line 3 in F.aag'),
     aiger('lines of outputs', times(b'aag 1 1 0 33554420 0\n', b'2\n'), 2, 'fault 38: too many nets in F.aag'),
     aiger('lines of outputs, and a name', times(b'aag 1 1 0 33554418 0\n', b'2\n', b'o0 z\n'), 2, 'fault 38: too many nets in F.aag'),
+    aiger('3,000,000 outputs, each with the name of the next', shifted(3000000), 2, 'fault 38: too many nets in F.aag'),
     aiger('lines of names', times(WIRED[:-2], b'o0 z\n'), 2, 'fault 30: netlist line 6 in F.aag'),
 ]
 
