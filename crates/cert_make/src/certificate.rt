@@ -12,8 +12,7 @@ use poly_mixed::{Generator, Labels, Poly, Steps, Term};
 use std::alloc::{AllocError, Global};
 use std::marker::Model;
 
-// A generator with its multiplier: the coefficient and the bit of an only term that is found to have no more, and else the
-// terms.
+// A generator with its multiplier: the coefficient and the bit of the only term, where `only_term` finds it, and else the terms.
 #[derive(Drop)]
 pub(crate) struct Entry {
     pub(crate) generator: Generator,

@@ -27,8 +27,8 @@ fn rank_in(mono: &Mono) -> Option<Option<u32>>
     }
 }
 
-/// The coefficient and the bit of the only term, where it is found to have no more. It is looked for in the first slot
-/// alone: what is left of the sum A + B + A, read from a text, stands in the second.
+/// The coefficient and the bit of the only term, if it stands in the first slot and has no word and at most one bit. What is
+/// left of the sum A + B + A, read from a text, stands in the second slot, and is not found.
 pub(crate) fn only_term(poly: &Poly) -> Option<(u64, Option<u32>)>
     ensures terms { IfSome result (λ s. poly.now.terms ≡ (monomial_kept s.1, s.0) ∷ []) }
     ensures some { IfSome result (λ s. s.0 ≢ 0) }

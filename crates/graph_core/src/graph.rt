@@ -60,7 +60,8 @@ impl Graph {
         })
     }
 
-    /// Lets a point lead to these points, in this order, and to no others; all are points of the graph.
+    /// Lets a point lead to these points, in this order, and to no others; all are points of the graph. What was set for it before
+    /// still takes its memory.
     pub fn set_edges(&mut self, from: u32, to: &[u32]) -> Result<(), AllocError>
         requires from { from < length self.old }
         requires to { All (λ a. a < length self.old) to.now }

@@ -51,7 +51,8 @@ impl PortSet {
     }
 }
 
-// The number of the first port whose default name begins with a letter.
+// The number that a place counts from behind a letter: 0 behind `i`, that of the first latch behind `l`, and that of the first
+// output behind any other.
 fn first_port(header: Header, letter: u8) -> u64
     ensures { result ≡ first_of header letter }
 {

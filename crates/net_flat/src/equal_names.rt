@@ -49,7 +49,7 @@ fn are_same_short(name: &[u8], other: &[u8]) -> bool
     }
 }
 
-/// Whether two names are the same. Most names of nets have 4 to 8 bytes, and are compared without a call.
+/// Whether two names are the same. Those of 4 to 8 bytes are compared without a call.
 pub fn is_same(name: &[u8], other: &[u8]) -> bool
     ensures { IsTrue result ↔ (name.now ≡ other.now) }
 {

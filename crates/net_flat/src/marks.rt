@@ -60,7 +60,7 @@ fn if_stands(marks: &IndexMap<String, Mark, KeyedHash>, place: usize, name: &[u8
     }
 }
 
-// Where a name stands that does not stand where the order says, and its mark. Never inlined: few names come here.
+// Where a name stands that does not stand where the order says, and its mark. Never inlined: on later walks over a model few names come here.
 #[inline(never)]
 fn look_up(
     marks: &IndexMap<String, Mark, KeyedHash>,

@@ -8,7 +8,7 @@ use net_core::NetFault;
 use std::alloc::{AllocError, AllocFailed};
 use std::marker::Model;
 
-/// What ends a walk before its last line.
+/// The four causes.
 #[derive(Clone, Copy)]
 pub enum Cause {
     TooManyNets,

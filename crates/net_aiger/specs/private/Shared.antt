@@ -8,7 +8,8 @@ use Rattle.net_aiger.specs.declared.reading.Header.{Header}
 
 -- ---- ports whose names another one may have
 
--- the number of the first port whose default name begins with a letter
+-- the number that a place counts from behind a letter: 0 behind `i`, that of the first latch behind `l`, and that of the first
+-- output behind any other
 abbrev pub first_of : Header → ℕ → ℕ
 first_of header letter = cond (letter == 105) 0 (cond (letter == 108) header.inputs (driven header))
 
@@ -27,6 +28,7 @@ Keeps old new = (port : ℕ) → stands old port ≡ true → stands new port �
 
 -- ---- ports whose names no other has
 
+-- no other port has the name of this one
 abbrev pub IsAlone : Reading → ℕ → Type 0
 IsAlone reading port = (other : ℕ) → other < 2 ^ 64 → port_name reading other ≡ port_name reading port → other ≡ port
 

@@ -16,10 +16,10 @@ fault_in causes.TooManyGates = faults.Net nets.TooManyGates
 fault_in causes.TooManyInstances = faults.TooManyInstances
 fault_in causes.OutOfMemory = faults.OutOfMemory
 
--- a fault of nets as one of flattening: want of memory is one of its own
+-- a fault of nets as one of flattening: out of memory is one of its own
 abbrev pub IsFaultBy : NetFault → FlatFault → Type 0
 IsFaultBy refusal fault = ((refusal ≡ nets.OutOfMemory) × (fault ≡ faults.OutOfMemory)) ⊎ (¬ (refusal ≡ nets.OutOfMemory) × (fault ≡ faults.Net refusal))
 
--- why there is no new net: want of memory, or it would be the 1,048,577th
+-- why there is no new net: out of memory, or it would be the 1,048,577th
 abbrev pub IsFaultOfNet : NetList → FlatFault → Type 0
 IsFaultOfNet net fault = (fault ≡ faults.OutOfMemory) ⊎ (IsFull net × (fault ≡ faults.Net nets.TooManyNets))

@@ -14,7 +14,8 @@ pub record CopiesLow (bits : List ℕ) (from to rank : ℕ) (old new : List ℕ)
   pub rest : drop from bits ≡ copied ++ drop to bits
   pub low : AllByRecursion (λ r. r < rank) copied
 
--- a list with bits behind it, none above a rank, which united with those from a place on are those from another and the rank
+-- a list with bits behind it, none above a rank: these, and then the bits from `to` on and any that the rank comes before, are the
+-- bits from `from` on and those with the rank put in
 pub record AddsLow (bits : List ℕ) (from to rank : ℕ) (old new : List ℕ) : Type 0 where
   pub added : List ℕ
   pub is : new ≡ old ++ added
