@@ -99,10 +99,12 @@ fn reads_files(rt: HostRuntime) -> Result<(), Fail> {
     let mut long = Vec::new(alloc);
     long.resize(10_000, 7u8)?;
     fs::write(&rt, "long", &long)?;
+    fs::write(&rt, "empty", &[])?;
     let mut shelf = FileShelf::new(&rt);
     for (name, limit, wanted) in [
         ("long", 10_000, Ok(long.as_slice())),
         ("long", 9_999, Err(ShelfFault::TooLong { limit: 9_999 })),
+        ("empty", 10_000, Ok(&long[..0])),
         ("short", 10_000, Err(ShelfFault::Absent)),
         (".", 10_000, Err(ShelfFault::Failed)),
     ] {
