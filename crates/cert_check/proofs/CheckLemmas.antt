@@ -6,17 +6,17 @@ use lib.Bits.{xor_assoc, xor_zero_l, xor_zero_r}
 use Rattle.gf_basis.specs.declared.bases.Basis.{Basis}
 use Rattle.net_words.specs.Binding.{BoundNet}
 use Rattle.poly_mixed.specs.Labels.{Labelling}
-use Rattle.poly_mixed.specs.Polynomial.{Terms, Point, IsPoint, IsReduced, value}
+use Rattle.poly_mixed.specs.Polynomial.{Polynomial, Terms, Point, IsPoint, IsReduced, value}
 use Rattle.poly_mixed.specs.Steps.{Step}
 use Rattle.poly_mixed.specs.declared.steps.Generator.{Generator}
-use Rattle.cert_check.specs.Certificate.{Certificate, with_pair}
+use Rattle.cert_check.specs.Certificate.{Certificate, with_pair, with_shared}
 use Rattle.cert_check.specs.Running.{generator_value, products, output_value, dual_words}
 use Rattle.cert_check.specs.Fault.{refusal}
 use Rattle.cert_check.specs.Verdict.{Verdict, IsRunningSum, AsksAtMost, VerdictFrom}
 use Rattle.cert_check.specs.declared.line.Multiplier.{Multiplier}
 use Rattle.cert_check.specs.declared.line.Multiplier.TheVariants.{Own, Shared}
 use Rattle.cert_check.specs.declared.fault.CertFault.{CertFault}
-use Rattle.cert_check.specs.declared.fault.CertFault.TheVariants.{TooManyTerms}
+use Rattle.cert_check.specs.declared.fault.CertFault.TheVariants.{OutOfMemory, TooManyTerms}
 use Rattle.std.proofs.lemmas.List.{length-map}
 use Rattle.outcome.specs.Outcome.{Outcome, Fits, MayRefuse}
 use Rattle.gf_basis.specs.BasisParts.{duals_of}
@@ -26,8 +26,13 @@ use Rattle.circuit_model.proofs.BoundLemmas.{count_of}
 use Rattle.cert_check.specs.Labels.{NameWords}
 use Rattle.cert_check.specs.declared.line.Line.{Line}
 use Rattle.cert_check.specs.declared.line.Line.TheVariants.{Pair, Share}
-use Rattle.cert_check.specs.private.Kept.{IsNumbered, IsKept, IsGeneratorOf, IsLineOf}
+use Rattle.cert_check.specs.declared.checking.Checking.{Checking}
+use Rattle.cert_check.specs.declared.last.LastGenerator.{LastGenerator}
+use Rattle.cert_check.specs.declared.running_sum.RunningSum.{RunningSum}
+use Rattle.cert_check.specs.private.Held.{dual_of, whole, IsHeld, IsLast}
+use Rattle.cert_check.specs.private.Kept.{terms_of, AddsLine, IsNumbered, IsKept, IsGeneratorOf, IsLineOf, IsShared, Keeps, LineAsks}
 use Rattle.cert_check.specs.private.Reading.{multiplier_in, IsMultiplier, IsGenerator, IsLine}
+use Rattle.poly_mixed.proofs.TextLemmas.{all_more}
 
 module _ (k : ℕ) (mul : ℕ → ℕ → ℕ) (bound : BoundNet) (bases : List Basis) where
   products_more : (steps : List Step) (g : Generator) (m : Terms) (p : Point) → products k mul bound bases (steps ++ (g, m) ∷ []) p ≡ bit_xor (products k mul bound bases steps p) (mul (generator_value k mul bound bases g p) (value mul p m))
@@ -117,3 +122,27 @@ is_line k mul bound bases labels count (Pair g m) long names same few is = (ther
         let words : length (dual_words bound bases) ≡ length labels.words = count_of bound.binding.words (map duals_of bases) (length-map bases duals_of ∙ long) ∙ sym names.count in
         (omega (arith, own.0, words), omega (arith, own.0, few), omega (arith, own.1, bits_at labels.words w names.bits own.0, same))
 is_line k mul bound bases labels count (Share p) long names same few is = is
+
+-- what a shared multiplier adds
+pub share_adds : (k : ℕ) (mul : ℕ → ℕ → ℕ) (bound : BoundNet) (bases : List Basis) (most n : ℕ) (r : Result (Unit {0}) CertFault) (old new : Checking) (p : Polynomial) → IsHeld bound bases k old.sum → IsLast k mul bound bases old.last → IsReduced k p.terms → OnOk r (IsShared old new p.terms) → IfErr r (λ fault. fault ≡ OutOfMemory) → AddsLine k mul bound bases most n r old new (Share p)
+share_adds k mul bound bases most n (Ok u) old new p held last reduced is memory =
+    let H : RunningSum → Type 0 = IsHeld bound bases k in
+    let L : LastGenerator → Type 0 = IsLast k mul bound bases in
+    record { asks = λ c kept. refl; kept = λ c kept. with_share c kept; few = is.few; held = subst H (sym is.sum) held; last = subst L (sym is.last) last }
+  where
+    with_share : (c : Certificate) → Keeps k mul bound bases most old c → Keeps k mul bound bases most new (with_shared c p.terms)
+    with_share c kept =
+        let A : List Terms → Type 0 = AllByRecursion (IsReduced k) in
+        let S : RunningSum → Type 0 = λ s. IsRunningSum k mul bound bases (with_shared c p.terms) (whole k mul (dual_of bound bases) s) in
+        let W : RunningSum → Type 0 = λ s. length (whole k mul (dual_of bound bases) s) ≤ most in
+        record {
+          claim_is = ap (λ (q : Polynomial). q.terms) is.claim ∙ kept.claim_is;
+          shared_are = is.shared ∙ ap (λ (xs : List Terms). xs ++ p.terms ∷ []) kept.shared_are;
+          reduced = subst A (sym is.shared) (all_more (IsReduced k) (terms_of old.shared.items) p.terms kept.reduced reduced);
+          sum_is = subst S (sym is.sum) (record { reduced = kept.sum_is.reduced; values = λ q at. kept.sum_is.values q at });
+          within = subst W (sym is.sum) kept.within;
+        }
+share_adds k mul bound bases most n (Err fault) old new p held last reduced is memory = record { asks = λ c kept. refuses c; kept = λ c kept. tt; few = tt; held = tt; last = tt }
+  where
+    refuses : (c : Certificate) → Fits {X = Unit {0}} {A = Unit {0}} refusal (λ u. tt) (Err fault) (LineAsks k mul bound bases most n c (Share p))
+    refuses c = let P : CertFault → Type 0 = λ x. Fits {X = Unit {0}} {A = Unit {0}} refusal (λ u. tt) (Err x) (LineAsks k mul bound bases most n c (Share p)) in subst P (sym memory) tt

@@ -1,10 +1,10 @@
 -- The pairs that the code keeps, with one more line; and faults of the claim's text.
-use Rattle.std.proofs.Common.{◌≡◌, ◌==◌, ◌∙◌, ap, sym, refl, subst, inl, inr, false, ℕ, zero, suc, ◌<◌, ◌+◌, List, [], ◌∷◌, ◌++◌, length, map, get_or, drop, take, Result, Ok, Err, arith}
+use Rattle.std.proofs.Common.{◌≡◌, ◌==◌, ◌∙◌, ap, sym, refl, subst, inl, inr, false, ℕ, zero, suc, ◌<◌, ◌+◌, ◌^◌, List, [], ◌∷◌, ◌++◌, length, map, get_or, drop, take, Result, Ok, Err, arith}
 use Rattle.std.specs.List.{AllByRecursion}
 use Rattle.std.specs.Str.Lines.{lines, strip_carriage_return}
 use Rattle.std.specs.Prelude.{◌⊎◌}
 use Rattle.std.proofs.lemmas.Bool.{cases_eq}
-use Rattle.std.proofs.lemmas.List.{map-append, length-map}
+use Rattle.std.proofs.lemmas.List.{map-append, length-map, length_push}
 use Rattle.outcome.specs.Outcome.{Fits, MayRefuse}
 use Rattle.text_core.proofs.LineLemmas.{lines_at, lines_last}
 use Rattle.poly_mixed.specs.Labels.{Labelling}
@@ -21,6 +21,7 @@ use Rattle.cert_check.specs.declared.line.Multiplier.{Multiplier}
 use Rattle.cert_check.specs.declared.line.Multiplier.TheVariants.{Own, Shared}
 use Rattle.cert_check.specs.private.Kept.{terms_of, step_in, certificate_of, IsNumbered, AreEntries}
 use Rattle.cert_check.specs.private.Reading.{multiplier_in, fault_of_claim}
+use Rattle.poly_mixed.proofs.TextLemmas.{all_more}
 
 front_get : (xs ys : List Terms) (n : ℕ) → n < length xs → get_or (xs ++ ys) n [] ≡ get_or xs n []
 front_get [] ys n less = absurd (omega arith)
@@ -44,6 +45,29 @@ share_added claim shared new p entries is are =
     ap (λ xs. certificate_of claim xs entries) is
     ∙ ((λ i. record { claim = claim.terms; shared = terms i; pairs = map (step_in (terms i)) entries })
     ∙ (λ i. record { claim = claim.terms; shared = terms_of shared ++ p.terms ∷ []; pairs = steps i }))
+
+later : (n : ℕ) (m : Multiplier) → IsNumbered n m → IsNumbered (n + 1) m
+later n (Own p) is = tt
+later n (Shared i) is = omega arith
+
+numbered_still : (n : ℕ) (es : List Entry) → AllByRecursion (λ (e : Entry). IsNumbered n e.multiplier) es → AllByRecursion (λ (e : Entry). IsNumbered (n + 1) e.multiplier) es
+numbered_still n [] all = tt
+numbered_still n (e ∷ es) all = (later n e.multiplier all.0, numbered_still n es all.1)
+
+-- the entries where one more multiplier is shared
+pub entries_stay : (shared new : List Polynomial) (p : Polynomial) (entries : List Entry) → new ≡ shared ++ p ∷ [] → AreEntries (length shared) entries → AreEntries (length new) entries
+entries_stay shared new p entries is are =
+    let long : length new ≡ length shared + 1 = ap (λ (xs : List Polynomial). length xs) is ∙ length_push shared p in
+    let A : ℕ → Type 0 = λ n. AreEntries n entries in
+    subst A (sym long) (record { few = are.few; each = numbered_still (length shared) entries are.each })
+
+-- and where there is one entry more
+pub entries_more : (count : ℕ) (entries new : List Entry) (e : Entry) → new ≡ entries ++ e ∷ [] → length entries + 1 < 2 ^ 32 → IsNumbered count e.multiplier → AreEntries count entries → AreEntries count new
+entries_more count entries new e is few one are =
+    let P : Entry → Type 0 = λ x. IsNumbered count x.multiplier in
+    let A : List Entry → Type 0 = AreEntries count in
+    let long : length (entries ++ e ∷ []) ≡ length entries + 1 = length_push entries e in
+    subst A (sym is) (record { few = omega (arith, few, long); each = all_more P entries e are.each one })
 
 -- ---- lines
 

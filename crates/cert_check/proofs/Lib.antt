@@ -23,3 +23,7 @@ pub mod DeterminedLemmas
 pub mod PairsLemmas
 pub mod TurnLemmas
 pub mod WaitingLemmas
+pub mod NotedLemmas
+pub mod PartLemmas
+pub mod LineLemmas
+pub mod HeadLemmas

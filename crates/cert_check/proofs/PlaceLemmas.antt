@@ -1,7 +1,8 @@
 -- Lists in which one entry is changed, and terms that are added one by one.
-use Rattle.std.proofs.Common.{◌≡◌, ◌∙◌, ap, ℕ, zero, suc, ◌<◌, ◌≤◌, ◌^◌, List, [], ◌∷◌, ◌++◌, length, take, drop, take_all, append-nil, drop_of_length-le, bit_xor, arith}
+use Rattle.std.proofs.Common.{◌≡◌, ◌∙◌, ap, sym, subst, inl, inr, ℕ, zero, suc, ◌<◌, ◌≤◌, ◌+◌, ◌^◌, List, [], ◌∷◌, ◌++◌, length, take, drop, take_all, append-nil, drop_of_length-le, length-set, get_or-set_same, get_or-set_other, bit_xor, arith}
 use Rattle.std.specs.Prelude.{slice_index, slice_set, replicate}
 use Rattle.std.specs.List.{AllByRecursion}
+use Rattle.std.proofs.lemmas.Bool.{cases_eq}
 use Rattle.std.proofs.lemmas.Nat.{pow_pos}
 use Rattle.cert_check.specs.private.Held.{power_of}
 
@@ -29,3 +30,22 @@ pub record AreSums (mul : ℕ → ℕ → ℕ) (c : ℕ) (old from : List ℕ) (
   pub long : length new ≡ length old
   pub before : (i : ℕ) → i < j → slice_index new i ≡ bit_xor (slice_index old i) (mul c (slice_index from i))
   pub after : (i : ℕ) → j ≤ i → slice_index new i ≡ slice_index old i
+
+-- one more sum
+pub sums_more : (mul : ℕ → ℕ → ℕ) (c : ℕ) (old from now new : List ℕ) (j p : ℕ) → j < length old → p ≡ mul c (slice_index from j) → new ≡ slice_set now j (bit_xor (slice_index now j) p) → AreSums mul c old from j now → AreSums mul c old from (j + 1) new
+sums_more mul c old from now new j p less made is are =
+    let v : ℕ = bit_xor (slice_index now j) p in
+    let A : List ℕ → Type 0 = AreSums mul c old from (j + 1) in
+    subst A (sym is)
+    (record {
+      long = length-set now j v ∙ are.long;
+      before = λ i low. elim (cases_eq i j) [
+        | inl here ↦
+            ap (slice_index (slice_set now j v)) here
+            ∙ (get_or-set_same now j v 0 (omega (arith, less, are.long))
+            ∙ ((λ k. bit_xor (are.after j (omega arith) k) (made k))
+            ∙ ap (λ (n : ℕ). bit_xor (slice_index old n) (mul c (slice_index from n))) (sym here)))
+        | inr other ↦ get_or-set_other now j i v 0 other ∙ are.before i (omega (arith, low, other))
+      ];
+      after = λ i high. get_or-set_other now j i v 0 (λ e. omega (arith, high, e)) ∙ are.after i (omega (arith, high));
+    })

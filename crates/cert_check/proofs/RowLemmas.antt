@@ -18,6 +18,7 @@ use Rattle.cert_check.specs.declared.running_sum.RunningSum.{RunningSum}
 use Rattle.cert_check.specs.Running.{dual_form}
 use Rattle.cert_check.specs.private.Held.{IsRowAt, square_of, row_value, rows_value, form_value, held_value}
 use Rattle.cert_check.proofs.HeldLemmas.{coefficient_out}
+use Rattle.cert_check.proofs.PartLemmas.{none_at}
 
 read_same : (rows : List Row) (i : ℕ) (x d : Row) → slice_get rows i ≡ Some x → get_or rows i d ≡ x
 read_same [] i x d got = absurd (cc)
@@ -71,12 +72,6 @@ module _ {k : ℕ} {mul : ℕ → ℕ → ℕ} (ring : IsRing k mul) (field : Ha
   no_sum : (cs : List ℕ) (n : ℕ) (g : ℕ → ℕ) → ((i : ℕ) → slice_index cs i ≡ 0) → sum_of_first n (λ e. mul (slice_index cs e) (g e)) ≡ 0
   no_sum cs zero g none = refl
   no_sum cs (suc n) g none = (λ j. bit_xor (no_sum cs n g none j) (mul (none n j) (g n))) ∙ (xor_zero_l (mul 0 (g n)) ∙ zero_mul k mul ring (g n))
-
-  -- a row without forms
-  pub none_at : (n j : ℕ) → slice_index (replicate n 0) j ≡ 0
-  none_at zero j = refl
-  none_at (suc n) zero = refl
-  none_at (suc n) (suc j) = none_at n j
 
   module _ (dual : ℕ → ℕ → ℕ) where
     -- a row in which the coefficient of one form gets an element

@@ -33,7 +33,8 @@ use Rattle.cert_check.specs.private.Held.{dual_of, square_of, square_term, with_
 use Rattle.cert_check.specs.private.Squares.{conjugates, AreMultiples, AreSquares, GrowByMultiples}
 use Rattle.poly_mixed.proofs.SharedLemmas.{element_in, frobenius_in}
 use Rattle.cert_check.proofs.HeldLemmas.{square_term_is, square_term_value, with_row_is, with_term_is}
-use Rattle.cert_check.proofs.RowLemmas.{squares, squares_added, no_squares, none_at}
+use Rattle.cert_check.proofs.PartLemmas.{none_at}
+use Rattle.cert_check.proofs.RowLemmas.{squares, squares_added, no_squares}
 
 -- the dual basis of a word
 pub dual_own : (bound : BoundNet) (bases : List Basis) (w : ℕ) (basis : Basis) → w < length (dual_words bound bases) → ((x : Word) → slice_get (dual_words bound bases) w ≡ Some x → x.basis ≡ duals_of basis) → (i : ℕ) → dual_of bound bases w i ≡ slice_index (duals_of basis) i
@@ -121,7 +122,7 @@ module _ {k : ℕ} {mul : ℕ → ℕ → ℕ} (ring : IsRing k mul) (field : Ha
   pub no_forms : (duals cs list : List ℕ) (n : ℕ) → list ≡ replicate n 0 → n ≡ k → AreSquares k mul duals cs 0 list
   no_forms duals cs list n is same =
       let P : List ℕ → Type 0 = AreSquares k mul duals cs 0 in
-      subst P (sym is) (record { long = length-replicate n 0 ∙ same; each = λ j less. none_at ring field n j })
+      subst P (sym is) (record { long = length-replicate n 0 ∙ same; each = λ j less. none_at n j })
 
   -- one form more
   pub form_more : (duals cs old new : List ℕ) (n c : ℕ) → c ≡ slice_index cs n → AreSquares k mul duals cs n old → length new ≡ length old → GrowByMultiples k mul c (conjugates mul (slice_index duals n)) old new → AreSquares k mul duals cs (n + 1) new

@@ -17,6 +17,7 @@ use Rattle.poly_mixed.proofs.SharedLemmas.{plus_few}
 use Rattle.poly_mixed.proofs.SumLemmas.{IsAdditive, at, at_additive, found_is_sum, sorted-plus, all_plus, xor_sum-plus}
 use Rattle.poly_mixed.proofs.ValueLemmas.{map_plus, one_map, same_map}
 use Rattle.cert_check.specs.private.Waiting.{share_in, nonzero_of, AddsAt, GrowsByTerm, HasMonomialAt, HaveRisingRanks, HaveSameSum}
+use Rattle.cert_check.proofs.PartLemmas.{all_got, all_put}
 
 -- ---- one term more
 
@@ -80,6 +81,12 @@ rise_left (t ∷ ts) all = elim (t.1 == 0) as (λ b. HaveRisingRanks (cond (not 
 
 pub rise_without : (old new : Terms) → new ≡ nonzero_of old → HaveRisingRanks old → HaveRisingRanks new
 rise_without old new is all = let P : Terms → Type 0 = HaveRisingRanks in subst P (sym is) (rise_left old all)
+
+pub rise_at : (old new : Terms) (i c : ℕ) → AddsAt old new i c → HaveRisingRanks old → HaveRisingRanks new
+rise_at old new i c adds all =
+    let P : Monomial × ℕ → Type 0 = λ t. IsStrictlySortedBy nat_cmp t.0.bits in
+    let A : Terms → Type 0 = HaveRisingRanks in
+    subst A (sym adds.set) (all_put P old i (adds.term.0, bit_xor adds.term.1 c) all (all_got P old i adds.term all adds.got))
 
 some_left : (ts : Terms) → AllByRecursion (λ t. t.1 ≢ 0) (nonzero_of ts)
 some_left [] = tt

@@ -1,14 +1,15 @@
 //! The verdict on the lines of a certificate after its claim.
-ghost use Rattle.std.specs.Prelude.{◌≡◌, ◌≤◌, ◌+◌, ℕ, length, IfOk, IfErr, IfSome, OnOk};
+ghost use Rattle.std.specs.Prelude.{◌≡◌, ◌≤◌, ℕ, length, IfOk, IfErr, IfSome, OnOk};
 ghost use Rattle.std.specs.Str.Lines.{lines};
 ghost use Rattle.circuit_model.specs.Bases.{AreBases};
 ghost use Rattle.cert_check.specs.Labels.{NameWords};
 ghost use Rattle.cert_check.specs.Certificate.{Certificate, begun};
 ghost use Rattle.cert_check.specs.Verdict.{IsRunningSum};
+ghost use Rattle.cert_check.specs.declared.fault.CertFault.TheVariants.{OutOfMemory};
 ghost use Rattle.cert_check.specs.declared.line.Line.TheVariants.{Pair};
 ghost use Rattle.cert_check.specs.private.Reading.{AreDrivers, IsLine, IsMultiplier};
 ghost use Rattle.cert_check.specs.private.Held.{whole, IsHeld, IsLast, IsSettled};
-ghost use Rattle.cert_check.specs.private.Kept.{AsksLine, EndsWith, IsGeneratorOf, IsLineOf, IsOver, IsVerdictAfter, Keeps, KeepsLine, SaysLine};
+ghost use Rattle.cert_check.specs.private.Kept.{AddsLine, AsksLine, EndsWith, IsGeneratorOf, IsLineOf, IsOver, IsShared, IsVerdictAfter, Keeps, KeepsLine, SaysLine};
 
 use crate::fault::{CertFault, LineFault, at_line};
 use crate::last::LastGenerator;
@@ -115,6 +116,16 @@ impl Checking {
         check_sum(&self.sum, field.k(), number, bound)
     }
 
+    // Adds a shared multiplier. After running out of memory the state is not used again.
+    fn share(&mut self, alloc: Global, poly: &Poly) -> Result<(), CertFault>
+        ensures shared { OnOk result (IsShared self.old self.new poly.now.terms) }
+        ensures memory { IfErr result (λ fault. fault ≡ OutOfMemory) }
+    {
+        let list = TermList::of(alloc, poly)?;
+        self.shared.push(list)?;
+        Ok(())
+    }
+
     // Adds what a line says, and compares the sum with the bound after a pair.
     fn add<F: Field>(
         &mut self,
@@ -133,11 +144,7 @@ impl Checking {
         requires held { IsHeld circuit.now bases.now (F.degree field.now) self.old.sum }
         requires last { IsLast (F.degree field.now) (F.product field.now) circuit.now bases.now self.old.last }
         requires line { IsLineOf (F.degree field.now) circuit.now bases.now (length self.old.shared.items) line }
-        ensures asks { AsksLine (F.degree field.now) (F.product field.now) circuit.now bases.now bound number result self.old line }
-        ensures kept { KeepsLine (F.degree field.now) (F.product field.now) circuit.now bases.now bound result self.old self.new line }
-        ensures few { OnOk result (length self.new.shared.items ≤ length self.old.shared.items + 1) }
-        ensures held { OnOk result (IsHeld circuit.now bases.now (F.degree field.now) self.new.sum) }
-        ensures last { OnOk result (IsLast (F.degree field.now) (F.product field.now) circuit.now bases.now self.new.last) }
+        ensures { AddsLine (F.degree field.now) (F.product field.now) circuit.now bases.now bound number result self.old self.new line }
     {
         match line {
             Line::Pair(generator, multiplier) => self.add_pair(
@@ -151,11 +158,7 @@ impl Checking {
                 generator,
                 &multiplier,
             ),
-            Line::Share(poly) => {
-                let list = TermList::of(alloc, &poly)?;
-                self.shared.push(list)?;
-                Ok(())
-            }
+            Line::Share(poly) => self.share(alloc, &poly),
         }
     }
 

@@ -1,5 +1,5 @@
 //! The gates that drive nets.
-ghost use Rattle.std.specs.Prelude.{◌≡◌, ◌<◌, length, is_some, slice_set, get_or, IfOk, None, Some};
+ghost use Rattle.std.specs.Prelude.{◌≡◌, ◌<◌, length, replicate, is_some, slice_set, get_or, IfOk, None, Some};
 ghost use Rattle.net_core.specs.NetList.{nets};
 ghost use Rattle.net_words.specs.OneCycle.{IsOneCycle};
 ghost use Rattle.cert_check.specs.private.Reading.{AreDrivers};
@@ -9,11 +9,19 @@ use net_words::Combinational;
 use std::alloc::{AllocError, Global};
 
 // Sets the position of the gate that drives a net.
-fn set_driver(drivers: &mut [Option<u32>], out: u32, position: u32)
-    requires { out < length drivers.old }
-    ensures { drivers.new ≡ slice_set drivers.old out (Some position) }
+fn set_driver(drivers: &mut Vec<Option<u32>>, out: u32, position: u32)
+    requires { out < length drivers.old.items }
+    ensures { drivers.new.items ≡ slice_set drivers.old.items out (Some position) }
 {
     drivers[out as usize] = Some(position);
+}
+
+// Of so many nets none is driven so far.
+fn no_drivers(alloc: Global, count: u32) -> Result<Vec<Option<u32>>, AllocError>
+    ensures { IfOk result (λ list. list.items ≡ replicate count None) }
+{
+    let list = vec![in alloc; None; count as usize]?;
+    Ok(list)
 }
 
 // For each net the position of the first gate that drives it.
@@ -21,7 +29,7 @@ fn net_drivers(alloc: Global, net: &Net) -> Result<Vec<Option<u32>>, AllocError>
     ensures { IfOk result (λ list. AreDrivers net.now list.items) }
 {
     let gates = net.gates();
-    let mut list = vec![in alloc; None; net.nets() as usize]?;
+    let mut list = no_drivers(alloc, net.nets())?;
     let mut i = gates.len();
     while i > 0 {
         i -= 1;

@@ -9,7 +9,7 @@ ghost use Rattle.cert_check.specs.Driver.{driver as driver_of};
 ghost use Rattle.cert_check.specs.Running.{rank_among, bit_value, dual_words};
 ghost use Rattle.cert_check.specs.private.Reading.{AreDrivers};
 ghost use Rattle.cert_check.specs.private.Units.{AddsValue, AreTerms, IsSumOf};
-ghost use Rattle.cert_check.specs.private.Generators.{driver_value, gate_value, net_value, ranked, IsSplitOf};
+ghost use Rattle.cert_check.specs.private.Generators.{driver_value, gate_value, ranked, IsSplitOf};
 ghost use Rattle.cert_check.specs.private.Kept.{IsGeneratorOf};
 
 use crate::form::Form;
@@ -63,8 +63,7 @@ fn add_gate<F: Field>(
     ensures values { OnOk result (AddsValue (F.degree field.now) (F.product field.now) (gate_value circuit.now gate.now) sum.old.terms sum.new.terms) }
 {
     let ranks = input_ranks(alloc, circuit, gate)?;
-    add_table(alloc, field, ranks.as_slice(), gate.table(), sum)?;
-    Ok(())
+    add_table(alloc, field, ranks.as_slice(), gate.table(), sum)
 }
 
 // The gate that drives a net.
@@ -111,23 +110,6 @@ fn bit_sum<F: Field>(alloc: Global, _field: &F, rank: u32) -> Result<MonoSum, Al
     Ok(sum)
 }
 
-// A net plus what its gate makes of its inputs.
-fn net_sum<F: Field>(
-    alloc: Global,
-    field: &F,
-    circuit: &Combinational,
-    drivers: &[Option<u32>],
-    n: u32,
-) -> Result<MonoSum, AllocError>
-    requires net { n < nets circuit.now.net }
-    requires drivers { AreDrivers circuit.now.net drivers.now }
-    ensures { IfOk result (λ s. IsSumOf (F.degree field.now) (F.product field.now) (net_value circuit.now n) s.terms) }
-{
-    let mut sum = bit_sum(alloc, field, rank(circuit, n))?;
-    add_driven(alloc, field, circuit, drivers, n, &mut sum)?;
-    Ok(sum)
-}
-
 /// Monomials and a form, whose sum is a generator.
 #[derive(Drop)]
 pub(crate) struct Split {
@@ -169,7 +151,8 @@ fn net_split<F: Field>(
     requires drivers { AreDrivers circuit.now.net drivers.now }
     ensures { IfOk result (IsSplitOf (F.degree field.now) (F.product field.now) circuit.now bases.now (OfNet n)) }
 {
-    let near = net_sum(alloc, field, circuit, drivers, n)?;
+    let mut near = bit_sum(alloc, field, rank(circuit, n))?;
+    add_driven(alloc, field, circuit, drivers, n, &mut near)?;
     Ok(Split { near, form: None })
 }
 

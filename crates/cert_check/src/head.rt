@@ -39,25 +39,31 @@ fn first_line(bytes: &[u8]) -> Result<(u32, &[u8]), CertFault>
     }
 }
 
-// The claim in the second line, and the text after it.
+// The claim in the second line and the text after it, with the version.
 fn second_line<'a>(
     alloc: Global,
     k: u32,
     labels: &Labels,
+    version: u32,
     bytes: &'a [u8],
-) -> Result<(Poly, &'a [u8]), CertFault>
+) -> Result<Head<'a>, CertFault>
     requires { (1 ≤ k) × (k ≤ 64) }
-    ensures value { Fits refusal (λ found. found.0.terms) result (FirstLine 2 (ClaimOf k labels.now) (lines bytes.now)) }
-    ensures reduced { IfOk result (λ found. IsReduced k found.0.terms) }
-    ensures rest { IfOk result (λ found. lines found.1.now ≡ drop 1 (lines bytes.now)) }
-    ensures shorter { IfOk result (λ found. length found.1.now < length bytes.now) }
+    ensures value { Fits refusal (λ head. head.claim.terms) result (FirstLine 2 (ClaimOf k labels.now) (lines bytes.now)) }
+    ensures version { IfOk result (λ head. head.version ≡ version) }
+    ensures reduced { IfOk result (λ head. IsReduced k head.claim.terms) }
+    ensures rest { IfOk result (λ head. lines head.rest.now ≡ drop 1 (lines bytes.now)) }
+    ensures shorter { IfOk result (λ head. length head.rest.now < length bytes.now) }
 {
     if bytes.is_empty() {
         return Err(CertFault::NoEnd);
     }
     let (line, rest) = next_line(bytes);
     match read_claim(alloc, k, labels, line) {
-        Ok(claim) => Ok((claim, rest)),
+        Ok(claim) => Ok(Head {
+            version,
+            claim,
+            rest,
+        }),
         Err(fault) => Err(at_line(2, fault)),
     }
 }
@@ -79,12 +85,5 @@ pub(crate) fn read_head<'a>(
         Ok(found) => found,
         Err(fault) => return Err(fault),
     };
-    match second_line(alloc, k, labels, rest) {
-        Ok((claim, rest)) => Ok(Head {
-            version,
-            claim,
-            rest,
-        }),
-        Err(fault) => Err(fault),
-    }
+    second_line(alloc, k, labels, version, rest)
 }

@@ -2,7 +2,6 @@
 ghost use Rattle.std.specs.Prelude.{◌≡◌, IsTrue, None, OnOk, Some};
 ghost use Rattle.circuit_model.specs.Bases.{AreBases};
 ghost use Rattle.cert_check.specs.private.Reading.{AreDrivers};
-ghost use Rattle.cert_check.specs.private.Units.{units};
 ghost use Rattle.cert_check.specs.private.Held.{IsLast};
 ghost use Rattle.cert_check.specs.private.Kept.{IsGeneratorOf};
 
@@ -12,14 +11,14 @@ use crate::mono_sum::MonoSum;
 use gf_basis::Basis;
 use gf_field::Field;
 use net_words::Combinational;
-use poly_mixed::{Generator, Mono};
+use poly_mixed::Generator;
 use std::alloc::{AllocError, Global};
 
 // A generator with its monomials and its form, once they were made.
 pub(crate) struct LastGenerator {
     generator: Option<Generator>,
-    near: MonoSum,
-    form: Option<Form>,
+    pub(crate) near: MonoSum,
+    pub(crate) form: Option<Form>,
 }
 
 // By hand, so that a caller that lets one go makes one call, and not one for each part.
@@ -70,20 +69,6 @@ impl LastGenerator {
             Some(last) => is_same(last, generator),
             None => false,
         }
-    }
-
-    // Its monomials.
-    pub(crate) fn near(&self) -> &[Mono]
-        ensures { units result.now ≡ self.now.near.terms }
-    {
-        self.near.monos()
-    }
-
-    // Its form.
-    pub(crate) fn form(&self) -> &Option<Form>
-        ensures { result.now ≡ self.now.form }
-    {
-        &self.form
     }
 
     // Puts a generator in its place, whose monomials and form are made unless it is the same one.

@@ -1,13 +1,13 @@
 //! One line of a certificate.
 ghost use Rattle.std.specs.Prelude.{◌≡◌, ◌≤◌, ◌↔◌, List, length, IsTrue, IfOk, IfSome};
-ghost use Rattle.outcome.specs.Outcome.{Fits, Returns};
+ghost use Rattle.outcome.specs.Outcome.{Fits};
 ghost use Rattle.poly_mixed.specs.Polynomial.{Terms, IsReduced};
 ghost use Rattle.cert_check.specs.Fault.{line_refusal};
 ghost use Rattle.cert_check.specs.Scan.{digits_first as digits_in_front};
-ghost use Rattle.cert_check.specs.Certificate.{after_hash as hash_left, shared_by, IsInWords, InWords, ClaimOf, PolynomialOf, MultiplierOf, LineOf};
+ghost use Rattle.cert_check.specs.Certificate.{after_hash as hash_left, IsInWords, InWords, ClaimOf, PolynomialOf, MultiplierOf, LineOf};
 ghost use Rattle.cert_check.specs.private.Kept.{terms_of, IsNumbered};
 ghost use Rattle.cert_check.specs.private.Scanning.{left_of};
-ghost use Rattle.cert_check.specs.private.Reading.{AreDrivers, multiplier_in, said_in, IsMultiplier, IsLine, fault_of_poly, fault_of_claim};
+ghost use Rattle.cert_check.specs.private.Reading.{AreDrivers, multiplier_in, multiplier_named, said_in, IsMultiplier, IsLine, fault_of_poly, fault_of_claim};
 
 use crate::fault::LineFault;
 use crate::frame::{Frame, below, claim_text, frame_at};
@@ -80,8 +80,7 @@ fn after_hash(version: u32, text: &[u8]) -> Option<&[u8]>
 
 // The number of a shared multiplier, of which there are so many.
 fn shared_number(count: u32, bytes: &[u8]) -> Result<Multiplier, LineFault>
-    ensures value { (shared : List Terms) → length shared ≡ count → Fits line_refusal (multiplier_in shared) result (Returns (shared_by shared (digits_in_front bytes.now))) }
-    ensures is { (k : _) → IfOk result (IsMultiplier k count) }
+    ensures value { result ≡ multiplier_named count (digits_in_front bytes.now) }
 {
     let Some((digits, rest)) = digits_first(bytes) else {
         return Err(LineFault::Syntax);

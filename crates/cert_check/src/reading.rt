@@ -111,8 +111,5 @@ pub fn pairs(
     ensures { Fits refusal (λ c. c) result (CertificateOf k circuit.now.net labels.now bytes.now) }
 {
     let drivers = drivers(alloc, circuit)?;
-    match pairs_of(alloc, k, circuit, drivers.as_slice(), labels, bytes) {
-        Ok(pairs) => Ok(pairs),
-        Err(fault) => Err(fault),
-    }
+    pairs_of(alloc, k, circuit, drivers.as_slice(), labels, bytes)
 }

@@ -127,8 +127,8 @@ fn add_product<F: Field>(
         circuit,
         bases,
         multiplier,
-        last.near(),
-        last.form(),
+        last.near.monos(),
+        &last.form,
     )
 }
 

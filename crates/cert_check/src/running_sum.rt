@@ -132,9 +132,9 @@ impl RunningSum {
         ensures rows { OnOk result (AreRows circuit.now bases.now (F.degree field.now) self.new.rows.items) }
         ensures values { OnOk result (KeepsTerm (F.degree field.now) (F.product field.now) (dual_of circuit.now bases.now) self.old.rows.items self.new.rows.items term.now form.now) }
     {
-        let row = row_of(alloc, field, circuit, bases, term, form)?;
         let mono = Mono::new(alloc, term.mono().bits(), term.mono().exponents())?;
         self.places.insert(mono, self.rows.len())?;
+        let row = row_of(alloc, field, circuit, bases, term, form)?;
         self.rows.push(row)?;
         Ok(())
     }

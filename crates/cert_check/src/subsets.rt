@@ -38,8 +38,7 @@ fn add_set<F: Field>(
 {
     if has_place(form, place) {
         let mono = Mono::new(alloc, set, &[0; 8])?;
-        sum.push(mono)?;
-        return Ok(());
+        return sum.push(mono);
     }
     Ok(())
 }
@@ -72,8 +71,7 @@ fn add_sets<F: Field>(
     ensures values { OnOk result (AddsValue (F.degree field.now) (F.product field.now) (sets_value set.now form ranks.now base step) sum.old.terms sum.new.terms) }
 {
     if ranks.is_empty() {
-        add_set(alloc, field, form, base, set, sum)?;
-        return Ok(());
+        return add_set(alloc, field, form, base, set, sum);
     }
     let rest = &ranks[1..];
     let more = with(alloc, set, ranks[0])?;
@@ -87,8 +85,7 @@ fn add_sets<F: Field>(
         2 * step,
         more.as_slice(),
         sum,
-    )?;
-    Ok(())
+    )
 }
 
 /// Adds the monomials of a table over at most 6 ranks, in any order, of which one may come more than once.

@@ -99,7 +99,7 @@ pub fn check<F: Field>(
     ensures { Fits refusal verdict_of result (Check (F.degree field.now) (F.product field.now) circuit.now bases.now labels.now bound bytes.now) }
 {
     let drivers = drivers(alloc, circuit)?;
-    match verdict_on(
+    verdict_on(
         alloc,
         field,
         circuit,
@@ -108,8 +108,5 @@ pub fn check<F: Field>(
         labels,
         bytes,
         bound,
-    ) {
-        Ok(verdict) => Ok(verdict),
-        Err(fault) => Err(fault),
-    }
+    )
 }

@@ -1,5 +1,5 @@
 -- The parts of generators and of the output as functions of points. Source: this project's own.
-use Rattle.std.specs.Prelude.{ℕ, List, bit_xor}
+use Rattle.std.specs.Prelude.{ℕ, List}
 use Rattle.gf_basis.specs.declared.bases.Basis.{Basis}
 use Rattle.irreducible.specs.Span.{combination}
 use Rattle.net_core.specs.GateValue.{GateValue}
@@ -10,7 +10,7 @@ use Rattle.poly_mixed.specs.Polynomial.{Point, Terms, IsPolynomialOf}
 use Rattle.poly_mixed.specs.Table.{index, table_value}
 use Rattle.poly_mixed.specs.declared.steps.Generator.{Generator}
 use Rattle.cert_check.specs.Driver.{driver}
-use Rattle.cert_check.specs.Running.{net_bit, bit_value, driven_value, generator_value, output_value}
+use Rattle.cert_check.specs.Running.{net_bit, driven_value, generator_value, output_value}
 use Rattle.cert_check.specs.declared.generator.Split.{Split}
 use Rattle.cert_check.specs.private.Held.{IsSplit}
 
@@ -25,10 +25,6 @@ gate_value netlist gate p = table_value gate.table gate.inputs (net_bit (ranked 
 -- what the gate that drives a net makes of the bits of its inputs
 abbrev pub driver_value : BoundNet → ℕ → Point → ℕ
 driver_value netlist n p = driven_value (ranked netlist) p (driver netlist.net n)
-
--- a net's bit plus what its gate makes of its inputs
-abbrev pub net_value : BoundNet → ℕ → Point → ℕ
-net_value netlist n p = bit_xor (bit_value (net_bit (ranked netlist) p n)) (driver_value netlist n p)
 
 -- the sum of the elements whose nets have the bit 1
 abbrev pub word_value : BoundNet → List ℕ → List ℕ → Point → ℕ

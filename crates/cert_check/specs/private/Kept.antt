@@ -1,5 +1,5 @@
 -- What the code keeps of a certificate. Source: this project's own.
-use Rattle.std.specs.Prelude.{◌≡◌, ℕ, ◌<◌, ◌≤◌, ◌+◌, ◌^◌, List, length, map, Option, Result, OnOk}
+use Rattle.std.specs.Prelude.{◌≡◌, ℕ, ◌<◌, ◌≤◌, ◌+◌, ◌^◌, List, [], ◌∷◌, ◌++◌, length, map, Option, Result, OnOk}
 use Rattle.std.specs.List.{AllByRecursion}
 use Rattle.outcome.specs.Outcome.{Outcome, Exactly, Fits}
 use Rattle.gf_basis.specs.declared.bases.Basis.{Basis}
@@ -24,7 +24,7 @@ use Rattle.poly_mixed.specs.Labels.{Labelling}
 use Rattle.poly_mixed.specs.declared.steps.Generator.TheVariants.{Net, Bit}
 use Rattle.cert_check.specs.declared.line.Line.{Line}
 use Rattle.cert_check.specs.declared.line.Line.TheVariants as line
-use Rattle.cert_check.specs.private.Held.{dual_of, whole}
+use Rattle.cert_check.specs.private.Held.{dual_of, whole, IsHeld, IsLast}
 use Rattle.cert_check.specs.private.Reading.{multiplier_in, said_in, IsMultiplier}
 
 -- the terms of each polynomial
@@ -94,6 +94,14 @@ IsOver n most size fault = (fault ≡ TooManyTerms n size) × (most < size)
 abbrev pub SaysLine : ℕ → NetList → Labelling → ℕ → ℕ → List ℕ → Result (Option Line) LineFault → Type 0
 SaysLine k net labels version count line result = (shared : List Terms) → length shared ≡ count → Fits line_refusal (said_in shared) result (LineOf k net labels version shared line)
 
+-- one more multiplier is shared, and nothing else changes
+pub record IsShared (old new : Checking) (p : Terms) : Type 0 where
+  pub claim : new.claim ≡ old.claim
+  pub shared : terms_of new.shared.items ≡ terms_of old.shared.items ++ p ∷ []
+  pub few : length new.shared.items ≤ length old.shared.items + 1
+  pub sum : new.sum ≡ old.sum
+  pub last : new.last ≡ old.last
+
 module _ (k : ℕ) (mul : ℕ → ℕ → ℕ) (netlist : BoundNet) (bases : List Basis) where
   -- the state is that of a certificate, whose running sum is within the bound
   abbrev pub Keeps : ℕ → Checking → Certificate → Type 0
@@ -106,6 +114,14 @@ module _ (k : ℕ) (mul : ℕ → ℕ → ℕ) (netlist : BoundNet) (bases : Lis
   -- of whatever certificate the old state is, the new one is of that with the line
   abbrev pub KeepsLine : ℕ → Result (Unit {0}) CertFault → Checking → Checking → Line → Type 0
   KeepsLine most result old new said = (c : Certificate) → Keeps most old c → OnOk result (Keeps most new (with_line c said))
+
+  -- what a line adds to a state
+  pub record AddsLine (most n : ℕ) (result : Result (Unit {0}) CertFault) (old new : Checking) (said : Line) : Type 0 where
+    pub asks : AsksLine most n result old said
+    pub kept : KeepsLine most result old new said
+    pub few : OnOk result (length new.shared.items ≤ length old.shared.items + 1)
+    pub held : OnOk result (IsHeld netlist bases k new.sum)
+    pub last : OnOk result (IsLast k mul netlist bases new.last)
 
   -- the verdict after `end`, of whatever certificate the state is
   abbrev pub EndsWith : Checking → ℕ → List (List ℕ) → Result CertVerdict CertFault → Type 0

@@ -1,7 +1,8 @@
 -- What the code keeps while it reads, and what it stands for. Source: this project's own.
-use Rattle.std.specs.Prelude.{◌≡◌, ℕ, ◌<◌, ◌==◌, true, List, [], length, Option, None, Some, Result, Ok, Err, get_or}
+use Rattle.std.specs.Prelude.{◌≡◌, ℕ, ◌<◌, ◌==◌, true, cond, nat_lt, List, [], length, Option, None, Some, Result, Ok, Err, get_or}
 use Rattle.std.specs.List.{position_from}
 use denote.Ref.{Bor}
+use Rattle.text_core.specs.Numbers.{value_of}
 use Rattle.net_core.specs.NetList.{NetList, nets}
 use Rattle.net_core.specs.GateValue.{GateValue}
 use Rattle.poly_mixed.specs.Labels.{Labelling, word_at}
@@ -11,6 +12,7 @@ use Rattle.poly_mixed.specs.declared.steps.Generator.TheVariants.{Net, Bit}
 use Rattle.cert_check.specs.Certificate.{Said, pairs, shares, ends}
 use Rattle.cert_check.specs.Driver.{is_driven}
 use Rattle.cert_check.specs.Frame.{Frame, pair_of, share_of, end_of}
+use Rattle.cert_check.specs.Scan.{is_blank}
 use Rattle.cert_check.specs.declared.fault.LineFault.{LineFault}
 use Rattle.cert_check.specs.declared.fault.LineFault.TheVariants as own
 use Rattle.poly_mixed.specs.declared.fault.PolyFault.{PolyFault}
@@ -55,6 +57,11 @@ frame_left (Err fault) = Err fault
 abbrev pub multiplier_in : List Terms → Multiplier → Terms
 multiplier_in shared (multiplier.Own p) = p.terms
 multiplier_in shared (multiplier.Shared n) = get_or shared n []
+
+-- the multiplier whose number stands first, with nothing after it, where so many are shared
+abbrev pub multiplier_named : ℕ → Option (List ℕ × List ℕ) → Result Multiplier LineFault
+multiplier_named count None = Err own.Syntax
+multiplier_named count (Some found) = cond (is_blank found.1) (cond (nat_lt (value_of 10 found.0) count) (Ok (multiplier.Shared (value_of 10 found.0))) (Err own.NoSuchLet)) (Err own.Syntax)
 
 abbrev pub line_in : List Terms → Line → Said
 line_in shared (line.Pair g m) = pairs g (multiplier_in shared m)

@@ -1,4 +1,4 @@
-use Rattle.std.proofs.Common.{◌≡◌, ◌∙◌, ◌<◌, ◌+◌, ◌^◌, ◌∷◌, [], ap, sym, subst, ℕ, List, drop, drop_of_length-le, arith}
+use Rattle.std.proofs.Common.{◌≡◌, ◌∙◌, ◌<◌, ◌≤◌, ◌+◌, ◌^◌, ◌∷◌, [], ap, sym, subst, ℕ, List, drop, drop_of_length-le, arith}
 use Rattle.std.proofs.lemmas.List.{drop_more}
 use Rattle.std.specs.List.{AllByRecursion}
 use Rattle.poly_mixed.specs.Monomial.{Monomial}
@@ -9,6 +9,22 @@ use Rattle.poly_mixed.proofs.ProductLemmas.{turn, product_nothing}
 use Rattle.cert_check.specs.private.Units.{units, AreTerms}
 use Rattle.cert_check.proofs.UnitLemmas.{nonzero, units_next}
 use Rattle.cert_check.proofs.multiple.add_multiple.Goals as goal
+
+pub product-requires-clause-k_in : goal.product-requires-clause-k_in
+product-requires-clause-k_in g c =
+    let ring = g.met.F.Ring.laws c.args.field.now in
+    let Q : ℕ → Type 0 = λ n. (1 ≤ n) × (n ≤ 64) in
+    subst Q (sym c.k-k.ensures) (ring.some, ring.small)
+
+pub product-requires-clause-left : goal.product-requires-clause-left
+product-requires-clause-left g c =
+    let k : ℕ = g.F.Ring.degree c.args.field.now in
+    let M : Monomial → Type 0 = λ m. AllByRecursion (λ e. e < 2 ^ k) m.exponents in
+    let Q : ℕ → Type 0 = λ n. AllByRecursion (λ e. e < 2 ^ n) c.mono.result.now.exponents in
+    subst Q (sym c.k-k.ensures) (subst M (sym c.mono.ensures) c.requires.by.0.monomial.exponents)
+
+pub add_term-requires : goal.add_term-requires
+add_term-requires g c = λ e. c.requires.by.1 (sym c.coefficient-c.ensures ∙ e)
 
 pub product-requires-clause-right : goal.product-requires-clause-right
 product-requires-clause-right g c =

@@ -1,13 +1,52 @@
-use Rattle.std.proofs.Common.{◌≡◌, map, sym, subst, Some, ℕ, List}
+use Rattle.std.proofs.Common.{◌≡◌, ◌∙◌, ◌<◌, ap, map, length, sym, subst, Some, ℕ, List, arith}
 use Rattle.std.specs.Prelude.{slice_get, slice_index}
 use Rattle.net_words.specs.Binding.{Binding}
 use Rattle.circuit_model.specs.OfBinding.{words_of}
 use Rattle.circuit_model.specs.Word.{Word}
+use Rattle.poly_mixed.specs.Polynomial.{IsElement}
 use Rattle.gf_basis.specs.BasisParts.{duals_of, elements_of}
 use Rattle.cert_check.specs.private.Held.{dual_of, AreSquaresOf}
 use Rattle.cert_check.specs.private.Squares.{AreMultiples, AreSquares}
 use Rattle.cert_check.proofs.SquareLemmas.{dual_own, own_squares, word_added}
 use Rattle.cert_check.proofs.squares.add_row.Goals as goal
+
+pub input_basis-basis-requires-clause-word : goal.input_basis-basis-requires-clause-word
+input_basis-basis-requires-clause-word g c =
+    let P : Binding → Type 0 = λ b. c.args.row.now.word < length (words_of b.words (map duals_of c.args.bases.now)) in
+    subst P (sym c.binding.ensures.binding) c.requires.row.known
+
+pub input_basis-basis-requires-clause-long : goal.input_basis-basis-requires-clause-long
+input_basis-basis-requires-clause-long g c = c.requires.bases.long ∙ ap (λ (b : Binding). length b.words) (sym c.binding.ensures.binding)
+
+pub factor-requires-clause-over : goal.factor-requires-clause-over
+factor-requires-clause-over g c = c.requires.bases.each c.input_basis-basis.result.now c.input_basis-basis.ensures.among
+
+pub factor-requires-clause-long : goal.factor-requires-clause-long
+factor-requires-clause-long g c = ap (λ (cs : List ℕ). length cs) c.as_slice-coefficients.ensures.value ∙ c.requires.row.long
+
+pub factor-requires-clause-elements : goal.factor-requires-clause-elements
+factor-requires-clause-elements g c =
+    let k : ℕ = g.F.Ring.degree c.args.field.now in
+    let P : List ℕ → Type 0 = λ cs. (i : ℕ) → i < k → IsElement k (slice_index cs i) in
+    subst P (sym c.as_slice-coefficients.ensures.value) c.requires.row.elements
+
+pub squares-requires-clause-over : goal.squares-requires-clause-over
+squares-requires-clause-over g c = c.requires.bases.each c.input_basis-basis.result.now c.input_basis-basis.ensures.among
+
+pub squares-requires-clause-long : goal.squares-requires-clause-long
+squares-requires-clause-long g c = ap (λ (cs : List ℕ). length cs) c.as_slice-coefficients.ensures.value ∙ c.requires.row.long
+
+pub squares-requires-clause-elements : goal.squares-requires-clause-elements
+squares-requires-clause-elements g c =
+    let k : ℕ = g.F.Ring.degree c.args.field.now in
+    let P : List ℕ → Type 0 = λ cs. (i : ℕ) → i < k → IsElement k (slice_index cs i) in
+    subst P (sym c.as_slice-coefficients.ensures.value) c.requires.row.elements
+
+pub add_square-requires-clause-j : goal.add_square-requires-clause-j
+add_square-requires-clause-j g c = let some = (g.met.F.Ring.laws c.args.field.now).some in omega (arith, some)
+
+pub add_squares-requires-clause-long : goal.add_squares-requires-clause-long
+add_squares-requires-clause-long g c = ap (λ (cs : List ℕ). length cs) c.deref.ensures.value ∙ c.in_ok-list-in-None.ensures.long
 
 pub returns-in-Some : goal.returns-in-Some
 returns-in-Some g c =

@@ -6,6 +6,14 @@ use Rattle.cert_check.specs.private.Held.{dual_of, with_rows, AreRows}
 use Rattle.cert_check.proofs.HeldLemmas.{with_row_is}
 use Rattle.cert_check.proofs.squares.add_rows.Goals as goal
 
+pub add_row-requires-clause-row : goal.add_row-requires-clause-row
+add_row-requires-clause-row g c =
+    let n : ℕ = c.loop-row.row-index in
+    let rows : List Row = c.args.rows.now in
+    let next : drop n rows ≡ c.row-item.result ∷ drop (n + 1) rows = drop_more rows n c.row-item.result c.loop-row-test.true ∙ ap (λ (r : Row). r ∷ drop (n + 1) rows) (sym c.row-item.is) in
+    let R : List Row → Type 0 = AreRows c.args.circuit.now c.args.bases.now (g.F.Ring.degree c.args.field.now) in
+    (subst R next c.loop-row.invariant.rows).0
+
 pub loop-row-preserved : goal.loop-row-preserved
 loop-row-preserved g c =
     let k : ℕ = g.F.Ring.degree c.args.field.now in

@@ -1,10 +1,11 @@
-use Rattle.std.proofs.Common.{◌≡◌, ◌∙◌, ◌<◌, ◌≤◌, ap, sym, subst, ℕ, List, length, OnOk}
+use Rattle.std.proofs.Common.{◌≡◌, ◌∙◌, ◌<◌, ◌≤◌, ap, sym, subst, ℕ, List, length, OnOk, arith}
 use Rattle.std.specs.Prelude.{IfErr}
 use Rattle.std.proofs.lemmas.List.{length-map}
+use Rattle.std.proofs.lemmas.Result.{on_ok_weaker}
 use Rattle.poly_mixed.specs.Polynomial.{Polynomial, Terms, IsReduced}
 use Rattle.cert_check.specs.Certificate.{with_pair}
 use Rattle.cert_check.specs.declared.fault.CertFault.TheVariants.{TooManyTerms}
-use Rattle.cert_check.specs.private.Held.{dual_of, whole}
+use Rattle.cert_check.specs.private.Held.{dual_of, whole, IsSettled}
 use Rattle.cert_check.specs.private.Kept.{terms_of, IsKept, IsNumbered}
 use Rattle.cert_check.specs.private.Reading.{multiplier_in, IsMultiplier}
 use Rattle.cert_check.proofs.CheckLemmas.{pair_asks, pair_kept, multiplier_reduced, numbered}
@@ -24,6 +25,18 @@ add_multiplier-requires-clause-multiplier g c =
     let Q : ℕ → Type 0 = λ n. IsMultiplier k n m in
     let P : List Polynomial → Type 0 = λ xs. IsReduced k (multiplier_in (terms_of xs) m) in
     subst P (sym c.as_slice.ensures.value) (multiplier_reduced k (terms_of shared) m c.requires.kept.1.reduced (subst Q count c.requires.multiplier))
+
+pub check_sum-requires : goal.check_sum-requires
+check_sum-requires g c = let P : ℕ → Type 0 = λ n. IsSettled n c.args.bound c.settle.new.self in subst P (sym c.k.ensures) c.in_ok-settle.ensures.settled
+
+pub returns-clause-few : goal.returns-clause-few
+returns-clause-few g c = on_ok_weaker c.check_sum.result (λ w. omega arith) (c.check_sum.ensures.within (g.F.Ring.product c.args.field.now) (dual_of c.args.circuit.now c.args.bases.now))
+
+pub returns-clause-held : goal.returns-clause-held
+returns-clause-held g c = on_ok_weaker c.check_sum.result (λ w. c.in_ok-settle.ensures.held) (c.check_sum.ensures.within (g.F.Ring.product c.args.field.now) (dual_of c.args.circuit.now c.args.bases.now))
+
+pub returns-clause-last : goal.returns-clause-last
+returns-clause-last g c = on_ok_weaker c.check_sum.result (λ w. c.in_ok-add_multiplier.ensures.last) (c.check_sum.ensures.within (g.F.Ring.product c.args.field.now) (dual_of c.args.circuit.now c.args.bases.now))
 
 pub returns-clause-asks : goal.returns-clause-asks
 returns-clause-asks g c d kept =
