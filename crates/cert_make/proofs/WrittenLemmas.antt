@@ -1,6 +1,7 @@
 -- The lines that are written, pair by pair.
-use Rattle.std.proofs.Common.{◌≡◌, ◌∙◌, ap, sym, refl, ℕ, zero, suc, ◌+◌, ◌<◌, List, [], ◌∷◌, ◌++◌, length, take, drop, get_or, Some, arith, add-one, append_assoc, Result, Ok, Err, OnOk}
+use Rattle.std.proofs.Common.{◌≡◌, ◌∙◌, ap, sym, refl, ℕ, zero, suc, ◌+◌, ◌<◌, ◌≤◌, List, [], ◌∷◌, ◌++◌, codes, length, take, drop, get_or, Some, arith, add-one, append_assoc, Result, Ok, Err, OnOk}
 use Rattle.std.specs.Prelude.{slice_get}
+use Rattle.std.proofs.lemmas.List.{drop_all, length-map}
 use Rattle.std.proofs.lemmas.List.Concat.{flat_map-append}
 use Rattle.lists.specs.Lists.{Has}
 use Rattle.poly_mixed.specs.Labels.{Labelling}
@@ -97,3 +98,11 @@ whole_next l es i e out new whole less is before adds =
     ∙ append_assoc out lines (left_at l (pairs_of es) (i + 1))
     ∙ ap (λ (x : List ℕ). out ++ x) (sym (left_next l es i e less is))
     ∙ before
+
+-- and after the last line all is written
+pub whole_end : {X E : Type 0} (r : Result X E) (l : Labelling) (es : List Entry) (i : ℕ) (old out new : List ℕ) → length es ≤ i → out ++ left_at l (pairs_of es) i ≡ old ++ left_at l (pairs_of es) 0 → OnOk r (new ≡ out ++ text_of_lines (codes "end" ∷ [])) → OnOk r (new ≡ old ++ text_of_lines (lines_from l (pairs_of es) [] (pairs_of es)))
+whole_end (Ok x) l es i old out new past whole adds =
+    let pairs : List Step = pairs_of es in
+    let none : drop i pairs ≡ [] = drop_all i pairs (omega (arith, past, length-map es pair_of)) in
+    adds ∙ (ap (λ (rest : List Step). out ++ text_of_lines (lines_from l pairs (shares_at pairs i) rest)) (sym none) ∙ whole)
+whole_end (Err e) l es i old out new past whole adds = tt

@@ -1,5 +1,5 @@
 //! The lines of a certificate.
-ghost use Rattle.std.specs.Prelude.{◌≡◌, ◌≤◌, ◌++◌, ◌∷◌, [], codes, decimal, OnOk};
+ghost use Rattle.std.specs.Prelude.{◌≡◌, ◌≤◌, ◌++◌, ◌∷◌, [], codes, OnOk};
 ghost use Rattle.poly_mixed.specs.Labels.{bit_count, bit_text};
 ghost use Rattle.poly_mixed.specs.Text.{HasNames, HasWordNames};
 ghost use Rattle.cert_make.specs.CertText.{claim_line, let_of, text_of_lines, generator_text as text_of_generator};
@@ -8,8 +8,7 @@ ghost use Rattle.cert_make.specs.private.Keys.{key_text};
 ghost use Rattle.cert_make.specs.private.TextSharing.{known_line, named_by};
 
 use crate::key::Key;
-use crate::multiplier::{add_known, add_place};
-use itoa::Buffer;
+use crate::multiplier::{add_known, add_numbered, add_place};
 use poly_mixed::{Generator, Labels, Poly, write_poly};
 use std::alloc::{AllocError, Global};
 
@@ -33,16 +32,6 @@ pub(crate) fn add_claim(
     Ok(())
 }
 
-// `net n`
-fn add_net(out: &mut Vec<u8>, n: u32) -> Result<(), AllocError>
-    ensures { OnOk result (out.new.items ≡ out.old.items ++ (codes "net " ++ decimal n)) }
-{
-    let mut buffer = Buffer::new();
-    out.extend_from_slice(b"net ")?;
-    out.extend_from_slice(buffer.format(n).as_bytes())?;
-    Ok(())
-}
-
 // `bit W[i]`
 fn add_bit(out: &mut Vec<u8>, name: &str, place: u32) -> Result<(), AllocError>
     ensures { OnOk result (out.new.items ≡ out.old.items ++ (codes "bit " ++ bit_text name.now place)) }
@@ -58,19 +47,9 @@ fn add_generator(out: &mut Vec<u8>, generator: Generator, labels: &Labels) -> Re
     ensures { OnOk result (out.new.items ≡ out.old.items ++ text_of_generator labels.now generator) }
 {
     match generator {
-        Generator::Net(n) => add_net(out, n),
+        Generator::Net(n) => add_numbered(out, b"net ", u64::from(n)),
         Generator::Bit { word, place } => add_bit(out, labels.name(word), place),
     }
-}
-
-// `#n`
-fn add_number(out: &mut Vec<u8>, n: u64) -> Result<(), AllocError>
-    ensures { OnOk result (out.new.items ≡ out.old.items ++ (codes "#" ++ decimal n)) }
-{
-    let mut buffer = Buffer::new();
-    out.push(b'#')?;
-    out.extend_from_slice(buffer.format(n).as_bytes())?;
-    Ok(())
 }
 
 // A multiplier by its number, or by its text where it has none.
@@ -84,7 +63,7 @@ fn add_multiplier(
     ensures { OnOk result (out.new.items ≡ out.old.items ++ named_by number (key_text labels.now key.now)) }
 {
     match number {
-        Some(n) => add_number(out, n),
+        Some(n) => add_numbered(out, b"#", n),
         None => add_known(out, key, labels),
     }
 }
@@ -110,7 +89,6 @@ pub(crate) fn add_pair(
 
 // `let n : POLY`
 pub(crate) fn add_let(
-    alloc: Global,
     out: &mut Vec<u8>,
     number: u64,
     key: &Key,
@@ -119,8 +97,7 @@ pub(crate) fn add_let(
     requires { key.now.place ≤ bit_count labels.now.words }
     ensures { OnOk result (out.new.items ≡ out.old.items ++ text_of_lines (let_of number (key_text labels.now key.now) ∷ [])) }
 {
-    let front = format!(in alloc; "let {}", number)?;
-    out.extend_from_slice(front.as_bytes())?;
+    add_numbered(out, b"let ", number)?;
     out.extend_from_slice(b" : ")?;
     add_known(out, key, labels)?;
     out.push(b'\n')?;

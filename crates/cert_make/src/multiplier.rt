@@ -1,5 +1,5 @@
 //! How a multiplier is written by what it is known by.
-ghost use Rattle.std.specs.Prelude.{◌≡◌, ◌<◌, ◌≤◌, ◌++◌, OnOk};
+ghost use Rattle.std.specs.Prelude.{◌≡◌, ◌<◌, ◌≤◌, ◌++◌, decimal, OnOk};
 ghost use Rattle.poly_mixed.specs.Labels.{bit_count, bit_text, rank_text};
 ghost use Rattle.cert_make.specs.private.Keys.{factor_text, short_text, key_text};
 
@@ -9,14 +9,22 @@ use poly_mixed::Labels;
 use std::alloc::AllocError;
 use text_core::push_hex;
 
+/// A word and a number.
+pub(crate) fn add_numbered(out: &mut Vec<u8>, word: &[u8], n: u64) -> Result<(), AllocError>
+    ensures { OnOk result (out.new.items ≡ out.old.items ++ (word.now ++ decimal n)) }
+{
+    let mut buffer = Buffer::new();
+    out.extend_from_slice(word)?;
+    out.extend_from_slice(buffer.format(n).as_bytes())?;
+    Ok(())
+}
+
 /// `W[i]`
 pub(crate) fn add_place(out: &mut Vec<u8>, name: &str, place: u64) -> Result<(), AllocError>
     ensures { OnOk result (out.new.items ≡ out.old.items ++ bit_text name.now place) }
 {
-    let mut buffer = Buffer::new();
     out.extend_from_slice(name.as_bytes())?;
-    out.push(b'[')?;
-    out.extend_from_slice(buffer.format(place).as_bytes())?;
+    add_numbered(out, b"[", place)?;
     out.push(b']')?;
     Ok(())
 }

@@ -36,7 +36,7 @@ impl Sharing {
         ensures marks { OnOk result ((q : KeyParts) → mark_at self.new.marks q ≡ mark_by (Some Often) self.old.count key.now q (mark_at self.old.marks q)) }
     {
         let number = self.count;
-        add_let(alloc, out, number, key, labels)?;
+        add_let(out, number, key, labels)?;
         self.marks.give(key.copied(alloc)?, number)?;
         self.count += 1;
         Ok(Some(number))
