@@ -14,7 +14,7 @@ use Rattle.job_words.specs.MadeWords.{AreTrialWords, IsOfKind}
 use Rattle.job_words.specs.Options.{AreCircuitOptions, AreNone, AreOptions, AreStageOptions, AreSumOptions, IsCyclesOption, IsTermsOption}
 use Rattle.job_words.specs.Shapes.{IsOverBlif, IsOverFile, IsOverFiles, AreValues}
 use Rattle.job_words.specs.Command.{Bits, Abstract, Check, Same, Eval, Iso, Lift, Table, Certify, Verify, Upgrade, Make, Compose, Job, Over, Trial, IsNamed, IsSpelled}
-use Rattle.job_words.specs.private.Groups.{IsOverSignature}
+use Rattle.job_words.specs.private.Groups.{IsFurther}
 use Rattle.job_words.specs.private.OptionPlace.{before_options, from_options}
 
 -- no name of a command stands twice in its table, nor that of a kind
@@ -195,7 +195,7 @@ pub one_job : (words : List Word) (job other : Job) → IsSpelled words job → 
 one_job words job other a b = back words job a ∙ sym (back words other b)
 
 -- no command has the name of the one over a netlist in BLIF with these words behind it, where they are none of this one
-pub no_compose : (name : Word) (rest : List Word) → name ≡ codes "compose" → ((s n : Word) (t : ℕ) → IsOverBlif (λ options. IsTermsOption 262144 65536 options t) rest s n → ⊥) → (job : Job) → IsOverSignature job → IsSpelled (name ∷ rest) job → ⊥
+pub no_compose : (name : Word) (rest : List Word) → name ≡ codes "compose" → ((s n : Word) (t : ℕ) → IsOverBlif (λ options. IsTermsOption 262144 65536 options t) rest s n → ⊥) → (job : Job) → IsFurther job → IsSpelled (name ∷ rest) job → ⊥
 no_compose name rest named none job over is =
     let s : Word = first_word rest in
     let n : Word = first_word (rest_of rest) in

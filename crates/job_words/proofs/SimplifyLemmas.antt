@@ -244,14 +244,6 @@ nothing_there : (before behind : List Word) → [] ≡ before ++ simplify ∷ be
 nothing_there [] behind e = absurd (cc)
 nothing_there (w ∷ ws) behind e = absurd (cc)
 
--- one word
-pub one_not : (p : Word) → (p ≡ simplify → ⊥) → (t c : ℕ) → AreCircuitOptions (p ∷ []) t c true → ⊥
-one_not p other t c is = let s = stands (p ∷ []) t c is in by s.before s.behind s.words_are
-  where
-    by : (before behind : List Word) → p ∷ [] ≡ before ++ simplify ∷ behind → ⊥
-    by [] behind e = other (ap first_word e)
-    by (w ∷ ws) behind e = nothing_there ws behind (ap rest_of e)
-
 -- three words
 module _ (p q r : Word) (t c : ℕ) (first : p ≡ simplify → AreStageOptions (q ∷ r ∷ []) t c → ⊥) (last : r ≡ simplify → AreStageOptions (p ∷ q ∷ []) t c → ⊥) where
   three_by : (before behind : List Word) → p ∷ q ∷ r ∷ [] ≡ before ++ simplify ∷ behind → (length before ≡ 0) ⊎ (length before ≡ 2) ⊎ (length before ≡ 4) → AreStageOptions (before ++ behind) t c → ⊥

@@ -2,6 +2,7 @@
 ghost use Rattle.std.specs.Prelude.{◌≡◌, IfOk, string_bytes};
 ghost use Rattle.job_words.specs.CertificateFault.{certificate_text as text_of};
 
+use crate::texts::numbered;
 use std::alloc::{AllocError, Global};
 
 /// Why the text of a certificate is refused: its first line with a fault. Lines count from 1.
@@ -29,11 +30,11 @@ pub(crate) fn certificate_text(
     ensures { IfOk result (λ text. string_bytes text ≡ text_of fault.now) }
 {
     match fault {
-        CertificateFault::Syntax { line } => format!(in alloc; "50: certificate line {line}"),
-        CertificateFault::NoSuchNet { line } => format!(in alloc; "51: no such net at line {line}"),
-        CertificateFault::NoSuchBit { line } => format!(in alloc; "52: no such bit at line {line}"),
-        CertificateFault::NotDriven { line } => format!(in alloc; "53: no gate at line {line}"),
-        CertificateFault::NoEnd => format!(in alloc; "54: no end line"),
-        CertificateFault::NoSuchLet { line } => format!(in alloc; "55: no such let at line {line}"),
+        CertificateFault::Syntax { line } => numbered(alloc, "50: certificate line ", *line),
+        CertificateFault::NoSuchNet { line } => numbered(alloc, "51: no such net at line ", *line),
+        CertificateFault::NoSuchBit { line } => numbered(alloc, "52: no such bit at line ", *line),
+        CertificateFault::NotDriven { line } => numbered(alloc, "53: no gate at line ", *line),
+        CertificateFault::NoEnd => String::from_str(alloc, "54: no end line"),
+        CertificateFault::NoSuchLet { line } => numbered(alloc, "55: no such let at line ", *line),
     }
 }

@@ -1,7 +1,7 @@
 //! The commands, and the words that spell them.
 ghost use Rattle.std.specs.Prelude.{◌∷◌, map, string_bytes, IfSome, IfNone};
 ghost use Rattle.job_words.specs.Command.{Over, Trial, IsSpelled, action_of, spelled_job};
-ghost use Rattle.job_words.specs.private.Groups.{IsLater, IsOfTables, IsOverSignature};
+ghost use Rattle.job_words.specs.private.Groups.{IsFurther, IsLater, IsOfTables, IsOverSignature};
 
 use crate::kind::Kind;
 use crate::made_words::{TrialWords, of_kind, of_numbers};
@@ -112,6 +112,16 @@ fn read_task<'a>(name: &str, rest: &'a [String]) -> Option<(&'a str, Task<'a>)>
             Some((signature, words)) => Some((signature, Task::Same(words))),
             None => None,
         },
+        _ => word_task(name, rest),
+    }
+}
+
+// The signature and the task of a command of values, of kinds or of blocks, or else of one below, with these words behind its name.
+fn word_task<'a>(name: &str, rest: &'a [String]) -> Option<(&'a str, Task<'a>)>
+    ensures found { IfSome result (λ r. IsSpelled (name.now ∷ map string_bytes rest.now) (Over r.0.now (action_of r.1))) }
+    ensures none { IfNone result ((job : _) → IsFurther job → IsSpelled (name.now ∷ map string_bytes rest.now) job → ⊥) }
+{
+    match name {
         "eval" => match over_values(rest) {
             Some((signature, words)) => Some((signature, Task::Eval(words))),
             None => None,

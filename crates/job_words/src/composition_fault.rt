@@ -3,6 +3,7 @@ ghost use Rattle.std.specs.Prelude.{◌≡◌, ◌++◌, IfOk, codes, string_byt
 ghost use Rattle.std.specs.Fmt.{decimal};
 ghost use Rattle.job_words.specs.CompositionFault.{composition_text as text_of};
 
+use crate::texts::{about, numbered};
 use net_core::Name;
 use std::alloc::{AllocError, Global};
 
@@ -37,35 +38,26 @@ pub(crate) fn composition_text(
     ensures { IfOk result (λ text. string_bytes text ≡ text_of fault.now) }
 {
     match fault {
-        CompositionFault::FedInTop => format!(in alloc; "44: the signature has a feed"),
+        CompositionFault::FedInTop => String::from_str(alloc, "44: the signature has a feed"),
         CompositionFault::GateInTop { line } => {
             format!(in alloc; "44: gate or latch at line {line} of the top")
         }
-        CompositionFault::NoBlock { model } => block_text(alloc, "no block ", model.as_str(), ""),
-        CompositionFault::BlockNet { model } => {
-            block_text(alloc, "block ", model.as_str(), " is no net")
-        }
+        CompositionFault::NoBlock { model } => about(alloc, "44: no block ", model, ""),
+        CompositionFault::BlockNet { model } => about(alloc, "44: block ", model, " is no net"),
         CompositionFault::BlockLatch { model } => {
-            block_text(alloc, "block ", model.as_str(), " has a latch")
+            about(alloc, "44: block ", model, " has a latch")
         }
         CompositionFault::BlockBind { model } => {
-            block_text(alloc, "block ", model.as_str(), " does not bind")
+            about(alloc, "44: block ", model, " does not bind")
         }
         CompositionFault::NotWords { instance, word } => {
             word_text(alloc, *instance, word.as_str())
         }
-        CompositionFault::OutputNotWords => format!(in alloc; "44: output word"),
+        CompositionFault::OutputNotWords => String::from_str(alloc, "44: output word"),
         CompositionFault::InstanceLoop { instance } => {
-            format!(in alloc; "44: loop through instance {instance}")
+            numbered(alloc, "44: loop through instance ", *instance)
         }
     }
-}
-
-// A text about a block.
-fn block_text(alloc: Global, before: &str, model: &str, after: &str) -> Result<String, AllocError>
-    ensures { IfOk result (λ text. string_bytes text ≡ codes "44: " ++ (before.now ++ (model.now ++ after.now))) }
-{
-    format!(in alloc; "44: {before}{model}{after}")
 }
 
 // The text of a word of an instance.

@@ -1,5 +1,5 @@
 //! Why an input is refused: the faults of all parts, each under its owner, and their lines.
-ghost use Rattle.std.specs.Prelude.{◌≡◌, ◌++◌, IfOk, codes, string_bytes};
+ghost use Rattle.std.specs.Prelude.{◌≡◌, ◌++◌, ℕ, List, IfOk, codes, string_bytes};
 ghost use Rattle.job_words.specs.Fault.{fault_line, fault_status};
 ghost use Rattle.job_words.specs.Kind.{kind_name as name_of};
 
@@ -77,23 +77,21 @@ pub fn write_fault(alloc: Global, fault: &Fault) -> Result<Vec<u8>, AllocError>
 {
     match fault {
         Fault::Words => line_of(alloc, "01: words"),
-        Fault::File(fault) => line_of(alloc, file_text(alloc, fault)?.as_str()),
-        Fault::Signature(fault) => line_of(alloc, signature_text(alloc, fault)?.as_str()),
+        Fault::File(fault) => line_with(alloc, file_text(alloc, fault)),
+        Fault::Signature(fault) => line_with(alloc, signature_text(alloc, fault)),
         Fault::Netlist { file, fault } => {
             line_in(alloc, netlist_text(alloc, fault)?.as_str(), file.as_str())
         }
-        Fault::Specification(fault) => line_of(alloc, specification_text(alloc, fault)?.as_str()),
-        Fault::Value(fault) => line_of(alloc, value_text(alloc, fault)?.as_str()),
-        Fault::SecondSignature(fault) => {
-            line_of(alloc, second_signature_text(alloc, fault)?.as_str())
-        }
+        Fault::Specification(fault) => line_with(alloc, specification_text(alloc, fault)),
+        Fault::Value(fault) => line_with(alloc, value_text(alloc, fault)),
+        Fault::SecondSignature(fault) => line_with(alloc, second_signature_text(alloc, fault)),
         Fault::Fields => line_of(alloc, "45: the fields do not fit"),
         Fault::NotSmall => line_of(alloc, "47: the signature is not small"),
-        Fault::Table(fault) => line_of(alloc, table_text(alloc, fault)?.as_str()),
-        Fault::Certificate(fault) => line_of(alloc, certificate_text(alloc, fault)?.as_str()),
-        Fault::Form(kind) => line_of(alloc, form_text(alloc, *kind)?.as_str()),
-        Fault::Composition(fault) => line_of(alloc, composition_text(alloc, fault)?.as_str()),
-        Fault::Stage(fault) => line_of(alloc, stage_fault_text(alloc, fault)?.as_str()),
+        Fault::Table(fault) => line_with(alloc, table_text(alloc, fault)),
+        Fault::Certificate(fault) => line_with(alloc, certificate_text(alloc, fault)),
+        Fault::Form(kind) => line_with(alloc, form_text(alloc, *kind)),
+        Fault::Composition(fault) => line_with(alloc, composition_text(alloc, fault)),
+        Fault::Stage(fault) => line_with(alloc, stage_fault_text(alloc, fault)),
     }
 }
 
@@ -111,6 +109,14 @@ fn line_of(alloc: Global, text: &str) -> Result<Vec<u8>, AllocError>
 {
     let line = format!(in alloc; "fault {text}\n")?;
     Ok(line.into_bytes())
+}
+
+// The line of a number and a text, where there was memory for them.
+fn line_with(alloc: Global, text: Result<String, AllocError>) -> Result<Vec<u8>, AllocError>
+    ensures { (bytes : List ℕ) → IfOk text (λ t. string_bytes t ≡ bytes) → IfOk result (λ line. line.items ≡ codes "fault " ++ (bytes ++ codes "\n")) }
+{
+    let text = text?;
+    line_of(alloc, text.as_str())
 }
 
 // The line of a number and a text, and of the file that they speak of.

@@ -2,6 +2,7 @@
 ghost use Rattle.std.specs.Prelude.{◌≡◌, IfOk, string_bytes};
 ghost use Rattle.job_words.specs.FileFault.{file_text as text_of};
 
+use crate::texts::about;
 use net_core::Name;
 use std::alloc::{AllocError, Global};
 
@@ -19,13 +20,9 @@ pub(crate) fn file_text(alloc: Global, fault: &FileFault) -> Result<String, Allo
     ensures { IfOk result (λ text. string_bytes text ≡ text_of fault.now) }
 {
     match fault {
-        FileFault::Absent { file } => {
-            let file = file.as_str();
-            format!(in alloc; "10: {file} is absent")
-        }
+        FileFault::Absent { file } => about(alloc, "10: ", file, " is absent"),
         FileFault::TooLong { file } => {
-            let file = file.as_str();
-            format!(in alloc; "11: {file} has more than 67108864 bytes")
+            about(alloc, "11: ", file, " has more than 67108864 bytes")
         }
     }
 }

@@ -19,6 +19,7 @@ mod specification_fault;
 mod stage_fault;
 mod stop;
 mod table_text_fault;
+mod texts;
 mod value_fault;
 mod words;
 

@@ -1,8 +1,9 @@
 //! Why a netlist or its binding to a signature is refused.
 ghost use Rattle.std.specs.Prelude.{◌≡◌, ◌++◌, IfOk, codes, string_bytes};
 ghost use Rattle.std.specs.Fmt.{decimal};
-ghost use Rattle.job_words.specs.NetlistFault.{netlist_text as text_of, binding_text as text_of_binding};
+ghost use Rattle.job_words.specs.NetlistFault.{netlist_text as text_of, binding_text as text_of_binding, place_text};
 
+use crate::texts::{about, named_number, numbered, two_numbers};
 use net_core::Name;
 use std::alloc::{AllocError, Global};
 
@@ -85,48 +86,42 @@ pub(crate) fn netlist_text(alloc: Global, fault: &NetlistFault) -> Result<String
     ensures { IfOk result (λ text. string_bytes text ≡ text_of fault.now) }
 {
     match fault {
-        NetlistFault::Syntax { line } => format!(in alloc; "30: netlist line {line}"),
+        NetlistFault::Syntax { line } => numbered(alloc, "30: netlist line ", *line),
         NetlistFault::LeftOut { line, word } => {
-            let word = word.as_str();
-            format!(in alloc; "31: {word} at line {line}")
+            named_number(alloc, "31: ", word.as_str(), " at line ", *line)
         }
-        NetlistFault::NoModel => format!(in alloc; "32: no model"),
-        NetlistFault::ModelTwice { line } => format!(in alloc; "32: model twice at line {line}"),
-        NetlistFault::NoSuchModel { line } => format!(in alloc; "32: no such model at line {line}"),
+        NetlistFault::NoModel => String::from_str(alloc, "32: no model"),
+        NetlistFault::ModelTwice { line } => numbered(alloc, "32: model twice at line ", *line),
+        NetlistFault::NoSuchModel { line } => numbered(alloc, "32: no such model at line ", *line),
         NetlistFault::NoSuchFormal { line } => {
-            format!(in alloc; "32: no such formal at line {line}")
+            numbered(alloc, "32: no such formal at line ", *line)
         }
-        NetlistFault::FormalTwice { line } => format!(in alloc; "32: formal twice at line {line}"),
+        NetlistFault::FormalTwice { line } => numbered(alloc, "32: formal twice at line ", *line),
         NetlistFault::FormalMissing { line } => {
-            format!(in alloc; "32: formal missing at line {line}")
+            numbered(alloc, "32: formal missing at line ", *line)
         }
         NetlistFault::Recursive { model } => {
-            let model = model.as_str();
-            format!(in alloc; "32: model {model} contains itself")
+            about(alloc, "32: model ", model, " contains itself")
         }
-        NetlistFault::TooDeep => format!(in alloc; "32: more than 64 models deep"),
-        NetlistFault::Undeclared { line } => format!(in alloc; "33: undeclared at line {line}"),
-        NetlistFault::OutOfRange { line } => format!(in alloc; "33: index at line {line}"),
-        NetlistFault::Redeclared { line } => format!(in alloc; "33: redeclared at line {line}"),
+        NetlistFault::TooDeep => String::from_str(alloc, "32: more than 64 models deep"),
+        NetlistFault::Undeclared { line } => numbered(alloc, "33: undeclared at line ", *line),
+        NetlistFault::OutOfRange { line } => numbered(alloc, "33: index at line ", *line),
+        NetlistFault::Redeclared { line } => numbered(alloc, "33: redeclared at line ", *line),
         NetlistFault::DrivenTwice { label } => {
-            about(alloc, "34: net ", label.as_str(), " is driven twice")
+            about(alloc, "34: net ", label, " is driven twice")
         }
-        NetlistFault::Undriven { label } => {
-            about(alloc, "35: net ", label.as_str(), " is not driven")
-        }
-        NetlistFault::Loop { count, label } => loop_text(alloc, *count, label.as_str()),
+        NetlistFault::Undriven { label } => about(alloc, "35: net ", label, " is not driven"),
+        NetlistFault::Loop { count, label } => loop_text(alloc, *count, label),
         NetlistFault::TooWide { line, inputs } => {
-            format!(in alloc; "37: {inputs} inputs at line {line}")
+            two_numbers(alloc, "37: ", *inputs, " inputs at line ", *line)
         }
-        NetlistFault::TooManyNets => format!(in alloc; "38: too many nets"),
-        NetlistFault::TooManyGates => format!(in alloc; "38: too many gates"),
-        NetlistFault::TooManyInstances => format!(in alloc; "38: too many instances"),
-        NetlistFault::Literal { line } => format!(in alloc; "46: literal at line {line}"),
-        NetlistFault::DefinedTwice { line } => {
-            format!(in alloc; "46: defined twice at line {line}")
-        }
-        NetlistFault::Undefined { line } => format!(in alloc; "46: undefined at line {line}"),
-        NetlistFault::NameTwice { line } => format!(in alloc; "46: name twice at line {line}"),
+        NetlistFault::TooManyNets => String::from_str(alloc, "38: too many nets"),
+        NetlistFault::TooManyGates => String::from_str(alloc, "38: too many gates"),
+        NetlistFault::TooManyInstances => String::from_str(alloc, "38: too many instances"),
+        NetlistFault::Literal { line } => numbered(alloc, "46: literal at line ", *line),
+        NetlistFault::DefinedTwice { line } => numbered(alloc, "46: defined twice at line ", *line),
+        NetlistFault::Undefined { line } => numbered(alloc, "46: undefined at line ", *line),
+        NetlistFault::NameTwice { line } => numbered(alloc, "46: name twice at line ", *line),
         NetlistFault::Binding(fault) => binding_text(alloc, fault),
     }
 }
@@ -137,44 +132,45 @@ fn binding_text(alloc: Global, fault: &BindingFault) -> Result<String, AllocErro
 {
     match fault {
         BindingFault::NoSuchNet { word, place } => {
-            let word = word.as_str();
-            format!(in alloc; "39: no net for {word}[{place}]")
+            bit_text(alloc, "39: no net for ", word, *place, "")
         }
         BindingFault::NotInput { word, place } => {
-            let word = word.as_str();
-            format!(in alloc; "39: {word}[{place}] is no input")
+            bit_text(alloc, "39: ", word, *place, " is no input")
         }
         BindingFault::NotLatch { word, place } => {
-            let word = word.as_str();
-            format!(in alloc; "39: {word}[{place}] is no latch")
+            bit_text(alloc, "39: ", word, *place, " is no latch")
         }
-        BindingFault::NetTwice { label } => {
-            about(alloc, "39: net ", label.as_str(), " stands twice")
-        }
+        BindingFault::NetTwice { label } => about(alloc, "39: net ", label, " stands twice"),
         BindingFault::FeedNotFree { line } => {
             format!(in alloc; "13: feed at line {line} is no free input")
         }
-        BindingFault::Uncovered { label } => {
-            about(alloc, "39: input ", label.as_str(), " is in no word")
-        }
+        BindingFault::Uncovered { label } => about(alloc, "39: input ", label, " is in no word"),
         BindingFault::UnknownStart { label } => {
-            about(alloc, "39: latch ", label.as_str(), " has no start")
+            about(alloc, "39: latch ", label, " has no start")
         }
     }
 }
 
-// A text about a net.
-fn about(alloc: Global, before: &str, label: &str, after: &str) -> Result<String, AllocError>
-    ensures { IfOk result (λ text. string_bytes text ≡ before.now ++ (label.now ++ after.now)) }
+// A text about a bit of a word.
+fn bit_text(
+    alloc: Global,
+    before: &str,
+    word: &Name,
+    place: u32,
+    after: &str,
+) -> Result<String, AllocError>
+    ensures { IfOk result (λ text. string_bytes text ≡ before.now ++ place_text word.now place after.now) }
 {
-    format!(in alloc; "{before}{label}{after}")
+    let word = word.as_str();
+    format!(in alloc; "{before}{word}[{place}]{after}")
 }
 
 // The text of a cycle of so many gates.
-fn loop_text(alloc: Global, count: u64, label: &str) -> Result<String, AllocError>
+fn loop_text(alloc: Global, count: u64, label: &Name) -> Result<String, AllocError>
     ensures { IfOk result (λ text. string_bytes text ≡ (codes "36: loop of " ++ (decimal count ++ codes " nets through ")) ++ label.now) }
 {
     let front = format!(in alloc; "36: loop of {count} nets through ")?;
     let front = front.as_str();
+    let label = label.as_str();
     format!(in alloc; "{front}{label}")
 }

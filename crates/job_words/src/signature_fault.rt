@@ -2,6 +2,7 @@
 ghost use Rattle.std.specs.Prelude.{◌≡◌, ◌++◌, IfOk, codes, string_bytes};
 ghost use Rattle.job_words.specs.SignatureFault.{signature_number as number_of, signature_words as words_of, second_word as second_of, signature_text as text_of, second_signature_text as second_text_of};
 
+use crate::texts::numbered;
 use net_core::Name;
 use std::alloc::{AllocError, Global};
 
@@ -103,26 +104,26 @@ fn signature_words(alloc: Global, fault: &SignatureFault) -> Result<String, Allo
     ensures { IfOk result (λ text. string_bytes text ≡ words_of fault.now) }
 {
     match fault {
-        SignatureFault::NoFedWord { line } => format!(in alloc; "no fed word at line {line}"),
-        SignatureFault::FeedTwice { line } => format!(in alloc; "feed twice at line {line}"),
-        SignatureFault::Syntax { line } => format!(in alloc; "signature line {line}"),
-        SignatureFault::Degree => format!(in alloc; "modulus degree"),
-        SignatureFault::Modulus => format!(in alloc; "the modulus is not irreducible"),
+        SignatureFault::NoFedWord { line } => numbered(alloc, "no fed word at line ", *line),
+        SignatureFault::FeedTwice { line } => numbered(alloc, "feed twice at line ", *line),
+        SignatureFault::Syntax { line } => numbered(alloc, "signature line ", *line),
+        SignatureFault::Degree => String::from_str(alloc, "modulus degree"),
+        SignatureFault::Modulus => String::from_str(alloc, "the modulus is not irreducible"),
         SignatureFault::TowerPolynomial => {
-            format!(in alloc; "the tower polynomial is not irreducible")
+            String::from_str(alloc, "the tower polynomial is not irreducible")
         }
-        SignatureFault::Dependent { line } => format!(in alloc; "dependent basis at line {line}"),
-        SignatureFault::Basis { line } => format!(in alloc; "basis at line {line}"),
-        SignatureFault::Tower => format!(in alloc; "tower"),
-        SignatureFault::Bits { line } => format!(in alloc; "bits at line {line}"),
-        SignatureFault::NameTwice { line } => format!(in alloc; "name twice at line {line}"),
-        SignatureFault::NoOutput => format!(in alloc; "no output word"),
+        SignatureFault::Dependent { line } => numbered(alloc, "dependent basis at line ", *line),
+        SignatureFault::Basis { line } => numbered(alloc, "basis at line ", *line),
+        SignatureFault::Tower => String::from_str(alloc, "tower"),
+        SignatureFault::Bits { line } => numbered(alloc, "bits at line ", *line),
+        SignatureFault::NameTwice { line } => numbered(alloc, "name twice at line ", *line),
+        SignatureFault::NoOutput => String::from_str(alloc, "no output word"),
         SignatureFault::NoOutputInBlock { model } => {
             format!(in alloc; "no output word in block {}", model.as_str())
         }
         SignatureFault::TwoOutputs { line } => {
-            format!(in alloc; "second output word at line {line}")
+            numbered(alloc, "second output word at line ", *line)
         }
-        SignatureFault::TooManyWords { line } => format!(in alloc; "ninth word at line {line}"),
+        SignatureFault::TooManyWords { line } => numbered(alloc, "ninth word at line ", *line),
     }
 }

@@ -2,6 +2,7 @@
 ghost use Rattle.std.specs.Prelude.{◌≡◌, IfOk, string_bytes};
 ghost use Rattle.job_words.specs.SpecificationFault.{specification_text as text_of};
 
+use crate::texts::numbered;
 use std::alloc::{AllocError, Global};
 
 /// Why the text of a specification is refused: its first token with a fault. Places are bytes from 0.
@@ -23,12 +24,12 @@ pub(crate) fn specification_text(
     ensures { IfOk result (λ text. string_bytes text ≡ text_of fault.now) }
 {
     match fault {
-        SpecificationFault::Syntax { place } => format!(in alloc; "40: syntax at byte {place}"),
+        SpecificationFault::Syntax { place } => numbered(alloc, "40: syntax at byte ", *place),
         SpecificationFault::UnknownWord { place } => {
-            format!(in alloc; "41: unknown word at byte {place}")
+            numbered(alloc, "41: unknown word at byte ", *place)
         }
         SpecificationFault::BadNumber { place } => {
-            format!(in alloc; "42: number at byte {place}")
+            numbered(alloc, "42: number at byte ", *place)
         }
     }
 }

@@ -3,6 +3,7 @@ ghost use Rattle.std.specs.Prelude.{◌≡◌, ◌++◌, IfOk, codes, length, st
 ghost use Rattle.std.specs.Fmt.{decimal};
 ghost use Rattle.job_words.specs.StageFault.{block_stage_text, stage_text, stage_fault_text as text_of, HasItsWord};
 
+use crate::texts::{named_number, numbered, two_numbers};
 use net_core::Name;
 use poly_mixed::{Labels, Stage};
 use std::alloc::{AllocError, Global};
@@ -38,28 +39,38 @@ pub fn write_stage(alloc: Global, labels: &Labels, stage: Stage) -> Result<Strin
     ensures { IfOk result (λ text. string_bytes text ≡ stage_text labels.now stage) }
 {
     match stage {
-        Stage::Cut(cut) => format!(in alloc; "cut {cut}"),
-        Stage::WordProduct { word, term, bit } => {
-            let word = labels.name(word);
-            format!(in alloc; "word {word} term {term} bit {bit}")
-        }
+        Stage::Cut(cut) => numbered(alloc, "cut ", cut),
+        Stage::WordProduct { word, term, bit } => bit_text(alloc, labels.name(word), term, bit),
         Stage::WordSum { word, term } => {
-            let word = labels.name(word);
-            format!(in alloc; "word {word} sum {term}")
+            named_number(alloc, "word ", labels.name(word), " sum ", term)
         }
         Stage::SpecProduct { term, factor } => {
-            format!(in alloc; "specification term {term} factor {factor}")
+            two_numbers(alloc, "specification term ", term, " factor ", factor)
         }
-        Stage::SpecSum { term } => format!(in alloc; "specification sum {term}"),
+        Stage::SpecSum { term } => numbered(alloc, "specification sum ", term),
         Stage::InstanceProduct {
             instance,
             term,
             factor,
-        } => format!(in alloc; "instance {instance} term {term} factor {factor}"),
+        } => factor_text(alloc, instance, term, factor),
         Stage::InstanceSum { instance, term } => {
-            format!(in alloc; "instance {instance} sum {term}")
+            two_numbers(alloc, "instance ", instance, " sum ", term)
         }
     }
+}
+
+// What a stage of a word's term is called, with so many of its first bits replaced.
+fn bit_text(alloc: Global, word: &str, term: u32, bit: u32) -> Result<String, AllocError>
+    ensures { IfOk result (λ text. string_bytes text ≡ codes "word " ++ (word.now ++ (codes " term " ++ (decimal term ++ (codes " bit " ++ decimal bit))))) }
+{
+    format!(in alloc; "word {word} term {term} bit {bit}")
+}
+
+// What a stage of so many of the first factors of a term of an instance's block is called.
+fn factor_text(alloc: Global, instance: u32, term: u32, factor: u32) -> Result<String, AllocError>
+    ensures { IfOk result (λ text. string_bytes text ≡ codes "instance " ++ (decimal instance ++ (codes " term " ++ (decimal term ++ (codes " factor " ++ decimal factor))))) }
+{
+    format!(in alloc; "instance {instance} term {term} factor {factor}")
 }
 
 /// What a stage of the block of this model is called, where these are the labels of the block's words. A stage of a word is one of a

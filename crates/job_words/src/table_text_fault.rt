@@ -2,6 +2,7 @@
 ghost use Rattle.std.specs.Prelude.{◌≡◌, IfOk, string_bytes};
 ghost use Rattle.job_words.specs.TableTextFault.{table_text as text_of};
 
+use crate::texts::numbered;
 use std::alloc::{AllocError, Global};
 
 /// Why the text of a table is refused: its first line with a fault. Lines count from 1.
@@ -18,9 +19,9 @@ pub(crate) fn table_text(alloc: Global, fault: &TableTextFault) -> Result<String
     ensures { IfOk result (λ text. string_bytes text ≡ text_of fault.now) }
 {
     match fault {
-        TableTextFault::Syntax { line } => format!(in alloc; "56: table line {line}"),
+        TableTextFault::Syntax { line } => numbered(alloc, "56: table line ", *line),
         TableTextFault::TooLarge { line } => {
-            format!(in alloc; "57: value too large at line {line}")
+            numbered(alloc, "57: value too large at line ", *line)
         }
     }
 }

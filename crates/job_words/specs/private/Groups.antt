@@ -1,6 +1,6 @@
 -- Groups of commands, each of which is read by a function of its own: for the clauses of private functions.
 -- Source: this project's own.
-use Rattle.job_words.specs.Command.{Action, Iso, Lift, Table, Certify, Verify, Upgrade, Job, Over, Trial}
+use Rattle.job_words.specs.Command.{Action, Eval, Iso, Lift, Table, Certify, Verify, Upgrade, Make, Compose, Job, Over, Trial}
 
 -- a command of tables or isomorphisms
 abbrev pub IsTableAction : Action → Type 0
@@ -23,6 +23,17 @@ IsLaterAction action = IsTableAction action
 abbrev pub IsLater : Job → Type 0
 IsLater (Over signature action) = IsLaterAction action
 IsLater (Trial number modulus terms) = ⊥
+
+-- a command of values, of kinds or of blocks, or one of those above
+abbrev pub IsFurtherAction : Action → Type 0
+IsFurtherAction (Eval net values cycles) = Unit {0}
+IsFurtherAction (Make kind) = Unit {0}
+IsFurtherAction (Compose net terms) = Unit {0}
+IsFurtherAction action = IsLaterAction action
+
+abbrev pub IsFurther : Job → Type 0
+IsFurther (Over signature action) = IsFurtherAction action
+IsFurther (Trial number modulus terms) = ⊥
 
 -- any command over a signature
 abbrev pub IsOverSignature : Job → Type 0

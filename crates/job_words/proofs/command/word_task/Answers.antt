@@ -1,6 +1,6 @@
 use Rattle.std.proofs.Common.{◌≡◌, codes, rules}
 use Rattle.job_words.proofs.OneCommandLemmas.{no_compose}
-use Rattle.job_words.proofs.command.read_task.Goals as goal
+use Rattle.job_words.proofs.command.word_task.Goals as goal
 
 pub returns-in-None-over_blif-clause-none : goal.returns-in-None-over_blif-clause-none
 returns-in-None-over_blif-clause-none c =
