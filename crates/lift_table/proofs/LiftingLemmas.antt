@@ -1,6 +1,8 @@
 -- Terms of tables.
-use Rattle.std.proofs.Common.{◌≡◌, ◌≢◌, ◌∙◌, ap, sym, refl, subst, ℕ, zero, suc, ◌+◌, ◌*◌, ◌-◌, ◌<◌, ◌≤◌, ◌^◌, List, [], ◌∷◌, length, get_or, set, take, drop, replicate, mul_comm, arith, Some}
+use Rattle.std.proofs.Common.{◌≡◌, ◌≢◌, ◌∙◌, ap, sym, refl, subst, ℕ, zero, suc, ◌+◌, ◌*◌, ◌-◌, ◌<◌, ◌≤◌, ◌^◌, List, [], ◌∷◌, length, get_or, set, take, drop, replicate, mul_comm, arith, Some, get_or-set_other, Result, Ok, Err, OnOk}
 use Rattle.std.specs.Prelude.{bit_xor}
+use Rattle.std.proofs.Math.Nat.{mul-le-mul_left}
+use Rattle.std.proofs.lemmas.Nat.{pow_pos}
 use Rattle.std.specs.List.{AllByRecursion}
 use Rattle.std.proofs.lemmas.List.{drop-set-lt, length-take-le}
 use Rattle.std.proofs.lemmas.Option.{get_or_from_slice_get, slice_get-get_or}
@@ -25,9 +27,10 @@ use Rattle.poly_mixed.proofs.SimpleLemmas.{no_ranks_rise}
 use Rattle.poly_mixed.proofs.UniquenessLemmas.{zero_powers}
 use Rattle.lift_table.specs.OneWord.{coefficient_of}
 use Rattle.lift_table.specs.private.Columns.{AreColumns}
+use Rattle.lift_table.specs.Small.{IsSmall}
 use Rattle.lift_table.specs.Table.{row_of, IsTableValue}
 use Rattle.lift_table.specs.TablePolynomial.{IsPolynomialOfTable}
-use Rattle.lift_table.specs.private.Lifting.{AddsTable, IsOfWords}
+use Rattle.lift_table.specs.private.Lifting.{AddsPart, AddsPowers, AddsTable, IsOfWords, IsPart}
 use Rattle.lift_table.proofs.GatherLemmas.{inside}
 use Rattle.lift_table.proofs.InterpolationLemmas.{interpolated}
 use Rattle.lift_table.proofs.RowLemmas.{row_next, row_below}
@@ -68,6 +71,69 @@ zeros_later (suc m) (suc n) = zeros_later m n
 
 pub added_terms : (exponents : List ℕ) (m : Monomial) (c : ℕ) (old new : Terms) → m ≡ of_words exponents → new ≡ plus_term text_cmp old (m, c) → new ≡ plus_term text_cmp old (of_words exponents, c)
 added_terms exponents m c old new is added = added ∙ ap (λ (n : Monomial). plus_term text_cmp old (n, c)) is
+
+-- three facts where there is no fault
+pub on_three : {X Y : Type 0} (r : Result X Y) (A B C D : Type 0) → (A → B → C → D) → OnOk r A → OnOk r B → OnOk r C → OnOk r D
+on_three (Ok x) A B C D f a b c = f a b c
+on_three (Err e) A B C D f a b c = tt
+
+pub smaller : (k words : ℕ) → IsSmall k words → IsSmall k (words - 1)
+smaller k words small =
+    let less : words - 1 ≤ words = omega arith in
+    let fewer : k * (words - 1) ≤ k * words = mul-le-mul_left k less in
+    record { bits = small.bits; rows = omega (arith, fewer, small.rows) }
+
+zero_elements : (k n : ℕ) → AllByRecursion (IsElement k) (replicate n 0)
+zero_elements k zero = tt
+zero_elements k (suc n) = (pow_pos k, zero_elements k n)
+
+zero_at : (n v : ℕ) → ◌≡◌ {A = ℕ} (get_or (replicate n 0) v 0) 0
+zero_at zero zero = refl
+zero_at zero (suc v) = refl
+zero_at (suc n) zero = refl
+zero_at (suc n) (suc v) = zero_at n v
+
+pub whole_part : (k words : ℕ) (table : List ℕ) → IsSmall k words → words ≤ 8 → length table ≡ 2 ^ (k * words) → AreElements k table → IsPart k words (replicate 8 0) table
+whole_part k words table small few long elements = record { small = small; few = few; long = long; elements = elements; raised = zero_elements k 8; zeros = λ v less. zero_at 8 v }
+
+raised_set : (k : ℕ) (es : List ℕ) (w e : ℕ) → AllByRecursion (IsElement k) es → IsElement k e → AllByRecursion (IsElement k) (set es w e)
+raised_set k [] zero e each small = tt
+raised_set k [] (suc w) e each small = tt
+raised_set k (x ∷ es) zero e each small = (small, each.1)
+raised_set k (x ∷ es) (suc w) e each small = (each.0, raised_set k es w e each.1 small)
+
+-- the values in one column are elements
+part_elements : (k e count : ℕ) (columns part : List ℕ) → e < 2 ^ k → length columns ≡ count * 2 ^ k → AreElements k columns → length part ≡ count → ((i : ℕ) → i < count → get_or part i 0 ≡ get_or columns (i * 2 ^ k + e) 0) → AreElements k part
+part_elements k e count columns part less long elements size at i within =
+    let low : i < count = omega (arith, size) in
+    let place : i * 2 ^ k + e < length columns = inside i (2 ^ k) e count (length columns) low less (omega (arith, long)) in
+    subst (λ (m : ℕ). m < 2 ^ k) (sym (at i low)) (elements (i * 2 ^ k + e) place)
+
+pub next_part : (k words e : ℕ) (exponents table columns part list others : List ℕ) → 1 ≤ words → IsPart k words exponents table → others ≡ set exponents (words - 1) e → e < 2 ^ k → length columns ≡ 2 ^ (k * (words - 1)) * 2 ^ k → AreElements k columns
+    → list ≡ part → length part ≡ 2 ^ (k * (words - 1)) → ((i : ℕ) → i < 2 ^ (k * (words - 1)) → get_or part i 0 ≡ get_or columns (i * 2 ^ k + e) 0) → IsPart k (words - 1) others list
+next_part k words e exponents table columns part list others some is others_are less columns_long columns_elements same long at =
+    let w = words - 1 in
+    let P : List ℕ → Type 0 = λ es. IsPart k w es list in
+    let Q : List ℕ → Type 0 = λ xs. IsPart k w (set exponents w e) xs in
+    subst P (sym others_are) (subst Q (sym same) (record {
+      small = smaller k words is.small;
+      few = omega (arith, is.few);
+      long = long;
+      elements = part_elements k e (2 ^ (k * w)) columns part less columns_long columns_elements long at;
+      raised = raised_set k exponents w e is.raised less;
+      zeros = λ v low. let other : v ≢ w = omega arith in rw get_or-set_other (is.zeros v (omega arith));
+    }))
+
+pub no_words : (k : ℕ) (mul : ℕ → ℕ → ℕ) (words : ℕ) (exponents table : List ℕ) (old new : Terms) → words ≡ 0 → IsReduced k new → AddsPowers k mul (get_or table 0 0) exponents old new
+    → ((every : ℕ) → IsZeros (drop every exponents) → AllByRecursion (IsOfWords every) old → AllByRecursion (IsOfWords every) new) → AddsPart k mul words exponents table old new
+no_words k mul words exponents table old new none reduced adds kept = record {
+  reduced = reduced;
+  values = λ p e at got.
+      let first : row_of k (take words p.words) ≡ 0 = ap (λ n. row_of k (take n p.words)) none in
+      let here : get_or table 0 0 ≡ e = ap (λ m. get_or table m 0) (sym first) ∙ get_or_from_slice_get table (row_of k (take words p.words)) e 0 got in
+      adds p at ∙ ap (λ m. bit_xor (value mul p old) (mul m (powers mul exponents p.words))) here;
+  kept = λ every within zeros each. kept every zeros each;
+}
 
 module _ (k : ℕ) (mul : ℕ → ℕ → ℕ) (ring : IsRing k mul) (field : HasNoZeroDivisors k mul) where
   f : IsField k mul

@@ -1,5 +1,5 @@
 -- The coefficients in one word, one after another, from the highest one down.
-use Rattle.std.proofs.Common.{◌≡◌, ◌≢◌, ◌∙◌, ap, sym, refl, subst, inl, inr, ℕ, zero, suc, ◌+◌, ◌*◌, ◌-◌, ◌<◌, ◌≤◌, ◌^◌, List, ◌++◌, length, get_or, set, length-set, length-append, get_or-set_same, get_or-set_other, arith}
+use Rattle.std.proofs.Common.{◌≡◌, ◌≢◌, ◌∙◌, ap, sym, refl, subst, inl, inr, ℕ, zero, suc, ◌+◌, ◌*◌, ◌-◌, ◌<◌, ◌≤◌, ◌^◌, List, [], ◌++◌, length, get_or, set, mul_comm, length-set, length-append, get_or-set_same, get_or-set_other, arith}
 use Rattle.std.specs.Prelude.{bit_xor}
 use Rattle.std.proofs.Math.ListN.{get_or-append}
 use Rattle.std.proofs.Math.Nat.{add-mul}
@@ -14,7 +14,7 @@ use Rattle.gf_field.specs.Power.{power}
 use Rattle.gf_field.specs.Ring.{IsRing}
 use Rattle.gf_field.specs.laws.RingLaws.{mul_one}
 use Rattle.lift_table.specs.OneWord.{coefficient_of}
-use Rattle.lift_table.specs.private.Columns.{AreCoefficients}
+use Rattle.lift_table.specs.private.Columns.{AddsCoefficients, AreCoefficients, AreColumns}
 use Rattle.lift_table.proofs.GatherLemmas.{inside}
 
 pub sum_more : (xs : List ℕ) (i s : ℕ) → s ≡ sum_of_first i (λ y. get_or xs y 0) → bit_xor s (get_or xs i 0) ≡ sum_of_first (i + 1) (λ y. get_or xs y 0)
@@ -50,6 +50,21 @@ pub record AreColumnsTo (k : ℕ) (mul : ℕ → ℕ → ℕ) (n rows : ℕ) (ta
   pub long : length list ≡ rows * 2 ^ k
   pub at : (row e : ℕ) → row < rows → e < 2 ^ k → get_or list (row * 2 ^ k + e) 0 ≡ coefficient_of k mul (λ x. get_or table (x * n + row) 0) e
   pub elements : AreElements k list
+
+-- a table of n rows of other words has room for n values of each element
+pub column_room : (k n count : ℕ) (table : List ℕ) → count ≡ 2 ^ k → length table ≡ n * 2 ^ k → count * n ≤ length table
+column_room k n count table is long =
+    let here : count * n ≡ 2 ^ k * n = ap (λ m. m * n) is in
+    omega (arith, here, mul_comm n (2 ^ k), long)
+
+pub column_elements : (k n row : ℕ) (table list values : List ℕ) → row < n → length table ≡ n * 2 ^ k → AreElements k table → list ≡ values → length values ≡ 2 ^ k
+    → ((x : ℕ) → x < 2 ^ k → get_or values x 0 ≡ get_or table (x * n + row) 0) → AreElements k list
+column_elements k n row table list values low long elements same size at =
+    let P : List ℕ → Type 0 = AreElements k in
+    subst P (sym same) (λ i within.
+    let small : i < 2 ^ k = omega (arith, size) in
+    let place : i * n + row < length table = inside i n row (2 ^ k) (length table) small low (column_room k n (2 ^ k) table refl long) in
+    subst (λ (m : ℕ). m < 2 ^ k) (sym (at i small)) (elements (i * n + row) place))
 
 module _ (k : ℕ) (mul : ℕ → ℕ → ℕ) (ring : IsRing k mul) where
   pub no_steps : (values list left : List ℕ) → list ≡ values → left ≡ values → length values ≡ 2 ^ k → AreElements k values → AreSoFar k mul values list left 0
@@ -116,11 +131,21 @@ module _ (k : ℕ) (mul : ℕ → ℕ → ℕ) (ring : IsRing k mul) where
   same_coefficient v w (suc e) same =
       same_sum (2 ^ k) (λ x. mul (v x) (power mul x (2 ^ k - 1 - suc e))) (λ x. mul (w x) (power mul x (2 ^ k - 1 - suc e))) (λ x less. ap (λ n. mul n (power mul x (2 ^ k - 1 - suc e))) (same x less))
 
-  pub one_column : (n row : ℕ) (table list after values column : List ℕ) → after ≡ list ++ column → AreColumnsTo k mul n row table list
-      → AreCoefficients k mul values column → ((x : ℕ) → x < 2 ^ k → get_or values x 0 ≡ get_or table (x * n + row) 0) → AreColumnsTo k mul n (row + 1) table after
-  one_column n row table list after values column is so coefficients gathered =
-      let P : List ℕ → Type 0 = AreColumnsTo k mul n (row + 1) table in
-      subst P (sym is) (record { long = long; at = each; elements = elements })
+  pub no_rows : (n : ℕ) (table list : List ℕ) → list ≡ [] → AreColumnsTo k mul n 0 table list
+  no_rows n table list none =
+      let P : List ℕ → Type 0 = AreColumnsTo k mul n 0 table in
+      subst P (sym none) (record { long = omega arith; at = λ row e less small. absurd (omega arith); elements = λ i within. absurd (omega arith) })
+
+  pub all_rows : (n rows : ℕ) (table list : List ℕ) → rows ≡ n → AreColumnsTo k mul n rows table list → AreColumns k mul n table list
+  all_rows n rows table list same so = record {
+    long = so.long ∙ ap (λ m. m * 2 ^ k) same;
+    at = λ row e less small. so.at row e (omega arith) small;
+    elements = so.elements;
+  }
+
+  more_column : (n row : ℕ) (table list values column : List ℕ) → AreColumnsTo k mul n row table list
+      → AreCoefficients k mul values column → ((x : ℕ) → x < 2 ^ k → get_or values x 0 ≡ get_or table (x * n + row) 0) → AreColumnsTo k mul n (row + 1) table (list ++ column)
+  more_column n row table list values column so coefficients gathered = record { long = long; at = each; elements = elements }
     where
       long : length (list ++ column) ≡ (row + 1) * 2 ^ k
       long =
@@ -147,3 +172,10 @@ module _ (k : ℕ) (mul : ℕ → ℕ → ℕ) (ring : IsRing k mul) where
             subst (λ (m : ℕ). get_or (list ++ column) m 0 < 2 ^ k) place
             (subst (λ (m : ℕ). m < 2 ^ k) (sym (get_or-append-add list column (i - length list) 0)) (coefficients.elements (i - length list) (omega arith)))
       ]
+
+  pub one_column : (n row : ℕ) (table list after values slice : List ℕ) → slice ≡ values → AddsCoefficients k mul slice list after → AreColumnsTo k mul n row table list
+      → ((x : ℕ) → x < 2 ^ k → get_or values x 0 ≡ get_or table (x * n + row) 0) → AreColumnsTo k mul n (row + 1) table after
+  one_column n row table list after values slice same adds so gathered =
+      let P : List ℕ → Type 0 = AreColumnsTo k mul n (row + 1) table in
+      let Q : List ℕ → Type 0 = λ xs. AreCoefficients k mul xs adds.column in
+      subst P (sym adds.is) (more_column n row table list values adds.column so (subst Q same adds.are) gathered)

@@ -1,32 +1,38 @@
 -- The table of a circuit, row by row.
-use Rattle.std.proofs.Common.{◌≡◌, ◌∙◌, ap, sym, refl, subst, ℕ, zero, suc, ◌<◌, ◌≤◌, ◌+◌, ◌-◌, ◌*◌, ◌/◌, ◌%◌, ◌^◌, List, [], ◌∷◌, ◌++◌, length, map, get_or, Some, arith, append-nil}
+use Rattle.std.proofs.Common.{◌≡◌, ◌∙◌, ap, sym, refl, subst, inl, inr, ℕ, zero, suc, ◌<◌, ◌≤◌, ◌+◌, ◌-◌, ◌*◌, ◌/◌, ◌%◌, ◌^◌, List, [], ◌∷◌, ◌++◌, length, map, get_or, Some, arith, append-nil}
 use Rattle.std.specs.Prelude.{slice_get}
 use Rattle.std.specs.List.{AllByRecursion}
+use Rattle.std.proofs.Math.ListN.{get_or-append}
+use Rattle.std.proofs.Math.Seq.{get_or-append_seam}
+use Rattle.std.proofs.lemmas.Bool.{cases_eq}
 use Rattle.std.proofs.lemmas.List.{append_assoc, length-map}
 use Rattle.std.proofs.lemmas.Option.{get_or_from_slice_get, slice_get_within, slice_get-get_or}
 use Rattle.lists.specs.Lists.{Has}
 use Rattle.lists.specs.laws.HasLaws.{all_low}
 use Rattle.lists.specs.laws.ReadLaws.{from_map, same_lists}
+use Rattle.net_core.specs.NetList.{NetList}
 use Rattle.net_core.specs.Sound.{IsSound}
 use Rattle.net_words.specs.Binding.{BoundNet}
 use Rattle.net_words.specs.OneCycle.{IsOneCycle}
 use Rattle.gf_field.specs.Ring.{IsRing}
 use Rattle.gf_field.specs.Field.{HasNoZeroDivisors}
 use Rattle.gf_basis.specs.Basis.{IsBasis}
-use Rattle.gf_basis.specs.BasisParts.{elements_of}
+use Rattle.gf_basis.specs.BasisParts.{elements_of, IsBasisOver}
 use Rattle.gf_basis.specs.declared.bases.Basis.{Basis}
 use Rattle.gf_field.specs.Element.{AreElements}
 use Rattle.circuit_model.proofs.BoundLemmas.{bound_well}
 use Rattle.circuit_model.proofs.OutLemmas.{some_out, one_out}
 use Rattle.circuit_model.specs.Bases.{AreBases, circuit_in}
 use Rattle.circuit_model.specs.Circuit.{Circuit, IsInput}
-use Rattle.circuit_model.specs.Flat.{circuit_of_parts, word_of}
+use Rattle.circuit_model.specs.Flat.{AreOver, circuit_of_parts, word_of}
 use Rattle.circuit_model.specs.OfBinding.{HaveBases}
 use Rattle.circuit_model.specs.Out.{IsOut}
 use Rattle.circuit_model.specs.WellFormed.{IsWellFormed}
+use Rattle.circuit_model.specs.Word.{Word}
 use Rattle.circuit_model.specs.declared.circuit_word.CircuitWord.{CircuitWord}
 use Rattle.lift_table.specs.CircuitTable.{IsTableOf}
 use Rattle.lift_table.specs.Table.{row_of}
+use Rattle.lift_table.specs.private.Circuits.{AreParts}
 use Rattle.lift_table.specs.private.Digits.{digits_of}
 use Rattle.lift_table.proofs.RowLemmas.{row_below, one_input, digits_long, digits_below, row_of_digits}
 
@@ -55,8 +61,17 @@ digits_elements k count row list is x has =
     let P : List ℕ → Type 0 = λ xs. Has xs x in
     has_below (2 ^ k) (digits_of k count row) (digits_below k count row) x (subst P is has)
 
-pub same_circuit : (k : ℕ) (mul : ℕ → ℕ → ℕ) (b : BoundNet) (bases : List Basis) (words : List CircuitWord) (to : CircuitWord) → map word_of words ≡ (circuit_in k mul b bases).words → word_of to ≡ (circuit_in k mul b bases).output → circuit_of_parts k mul b.net words to ≡ circuit_in k mul b bases
-same_circuit k mul b bases words to are is = λ i. record { k = k; product = mul; net = b.net; words = are i; output = is i; feeds = []; cycles = 0 }
+-- the parts of a circuit are the circuit
+pub same_circuit : (k : ℕ) (mul : ℕ → ℕ → ℕ) (b : BoundNet) (bases : List Basis) (net : NetList) (words : List CircuitWord) (to : CircuitWord) → net ≡ b.net → map word_of words ≡ (circuit_in k mul b bases).words → word_of to ≡ (circuit_in k mul b bases).output
+    → circuit_of_parts k mul net words to ≡ circuit_in k mul b bases
+same_circuit k mul b bases net words to same are is = λ i. record { k = k; product = mul; net = same i; words = are i; output = is i; feeds = []; cycles = 0 }
+
+-- the words of a list are those of another that is the same
+pub words_are : (list words : List CircuitWord) (all : List Word) → words ≡ list → map word_of list ≡ all → map word_of words ≡ all
+words_are list words all same are = ap (λ (ws : List CircuitWord). map word_of ws) same ∙ are
+
+pub as_many : (words : List CircuitWord) (all : List Word) → map word_of words ≡ all → length words ≡ length all
+as_many words all are = sym (length-map words word_of) ∙ ap (λ (ws : List Word). length ws) are
 
 pub well_formed : (k : ℕ) (mul : ℕ → ℕ → ℕ) (b : BoundNet) (bases : List Basis) → AreBases k mul b bases → IsRing k mul → HasNoZeroDivisors k mul → IsSound b.net → IsOneCycle b.net b.binding → b.binding.k ≡ k → IsWellFormed (circuit_in k mul b bases)
 well_formed k mul b bases are ring field sound bound bits = bound_well k mul b (map elements_of bases) bound bits have ring field sound
@@ -69,6 +84,34 @@ well_formed k mul b bases are ring field sound bound bits = bound_well k mul b (
           let P : List ℕ → Type 0 = IsBasis k in
           subst P found.2 (are.each found.0 (has.0, found.1)).elements;
     }
+
+pub are_parts : (k : ℕ) (mul : ℕ → ℕ → ℕ) (b : BoundNet) (bases : List Basis) (net : NetList) (list words : List CircuitWord) (to : CircuitWord) → AreBases k mul b bases → IsRing k mul → HasNoZeroDivisors k mul → net ≡ b.net → b.net.latches ≡ [] → IsSound b.net → IsOneCycle b.net b.binding → b.binding.k ≡ k
+    → words ≡ list → map word_of list ≡ (circuit_in k mul b bases).words → word_of to ≡ (circuit_in k mul b bases).output → AreOver k mul list → IsBasisOver k mul to.basis → AreParts k mul net words to
+are_parts k mul b bases net list words to have ring field is flat sound bound bits same are out over over_output =
+    let all = (circuit_in k mul b bases).words in
+    let whole = same_circuit k mul b bases net words to is (words_are list words all same are) out in
+    let P : Circuit → Type 0 = λ circuit. IsWellFormed circuit in
+    let Q : List CircuitWord → Type 0 = AreOver k mul in
+    record {
+      flat = ap (λ (n : NetList). n.latches) is ∙ flat;
+      over = subst Q (sym same) over;
+      over_output = over_output;
+      well = subst P (sym whole) (well_formed k mul b bases have ring field sound bound bits);
+    }
+
+-- one row more
+pub row_more : (P : ℕ → ℕ → Type 0) (before after : List ℕ) (v i : ℕ) → after ≡ before ++ v ∷ [] → length before ≡ i → P i v → ((r : ℕ) → r < i → P r (get_or before r 0)) → (r : ℕ) → r < i + 1 → P r (get_or after r 0)
+row_more P before after v i is long here so_far r less =
+    let Q : List ℕ → Type 0 = λ xs. P r (get_or xs r 0) in
+    subst Q (sym is) (elim (cases_eq r i) [
+      | inl e ↦
+          let last : get_or (before ++ v ∷ []) r 0 ≡ v = ap (λ n. get_or (before ++ v ∷ []) n 0) (e ∙ sym long) ∙ get_or-append_seam before v [] 0 in
+          subst (λ (n : ℕ). P r n) (sym last) (subst (λ (n : ℕ). P n v) (sym e) here)
+      | inr n ↦
+          let small : r < i = omega arith in
+          let within : r < length before = omega (arith, long) in
+          subst (λ (m : ℕ). P r m) (sym (get_or-append before (v ∷ []) 0 r within)) (so_far r small)
+    ])
 
 -- the outputs at all rows are the table
 pub table_of : (circuit : Circuit) (table : List ℕ) (count : ℕ) → count ≡ length circuit.words → length table ≡ 2 ^ (circuit.k * count) → ((row : ℕ) → row < 2 ^ (circuit.k * count) → IsOut circuit (digits_of circuit.k count row) (get_or table row 0)) → IsTableOf circuit table

@@ -1,13 +1,11 @@
 //! The words of a circuit of one cycle with their bases, for the plain program that evaluates it.
 ghost use Rattle.std.specs.Prelude.{◌≡◌, ◌<◌, length, map, slice_get, Some, IfOk, OnOk};
-ghost use Rattle.gf_basis.specs.BasisParts.{elements_of, IsBasisOver};
-ghost use Rattle.net_words.specs.OneCycle.{IsOneCycle};
-ghost use Rattle.net_words.specs.declared.word.Role.TheVariants.{Output};
+ghost use Rattle.gf_basis.specs.BasisParts.{IsBasisOver};
 ghost use Rattle.circuit_model.specs.Bases.{AreBases, circuit_in};
 ghost use Rattle.circuit_model.specs.Flat.{AreOver, word_of};
 ghost use Rattle.lift_table.specs.private.Circuits.{AddsWord};
 
-use circuit_model::{CircuitWord, is_output};
+use circuit_model::{CircuitWord, output_basis, output_nets};
 use gf_basis::Basis;
 use gf_field::Field;
 use net_words::{Combinational, Role};
@@ -35,61 +33,45 @@ pub(crate) fn circuit_words<F: Field>(
 /// The output word of a circuit, with its basis.
 pub(crate) fn output_word<F: Field>(
     alloc: Global,
-    field: &F,
+    _field: &F,
     circuit: &Combinational,
     bases: &[Basis],
 ) -> Result<CircuitWord, AllocError>
-    requires { AreBases (F.degree field.now) (F.product field.now) circuit.now bases.now }
-    ensures word { IfOk result (λ word. word_of word ≡ (circuit_in (F.degree field.now) (F.product field.now) circuit.now bases.now).output) }
-    ensures over { IfOk result (λ word. IsBasisOver (F.degree field.now) (F.product field.now) word.basis) }
+    requires { AreBases (F.degree _field.now) (F.product _field.now) circuit.now bases.now }
+    ensures word { IfOk result (λ word. word_of word ≡ (circuit_in (F.degree _field.now) (F.product _field.now) circuit.now bases.now).output) }
+    ensures over { IfOk result (λ word. IsBasisOver (F.degree _field.now) (F.product _field.now) word.basis) }
 {
-    let w = output_place(circuit);
-    let nets = nets_of(alloc, circuit, w)?;
-    let basis = copied(alloc, field, &bases[w as usize])?;
+    let binding = circuit.binding();
+    let basis = output_basis(binding, bases);
+    let nets = output_nets(alloc, binding)?;
     Ok(CircuitWord {
         role: Role::Output,
         nets,
-        basis,
+        basis: *basis,
     })
-}
-
-// Where the output word stands among the words.
-fn output_place(circuit: &Combinational) -> u32
-    ensures within { result < length circuit.now.binding.words }
-    ensures output { (word : _) → slice_get circuit.now.binding.words result ≡ Some word → word.role ≡ Output }
-    ensures is_bound { IsOneCycle circuit.now.net circuit.now.binding }
-{
-    let binding = circuit.binding();
-    for w in 0..binding.words() {
-        if is_output(binding.role(w)) {
-            return w;
-        }
-    }
-    unreachable!()
 }
 
 // Adds the next word, unless it is the output word.
 fn add_word<F: Field>(
     alloc: Global,
-    field: &F,
+    _field: &F,
     circuit: &Combinational,
     w: u32,
     basis: &Basis,
     list: &mut Vec<CircuitWord>,
 ) -> Result<(), AllocError>
     requires word { w < length circuit.now.binding.words }
-    requires basis { IsBasisOver (F.degree field.now) (F.product field.now) basis.now }
+    requires basis { IsBasisOver (F.degree _field.now) (F.product _field.now) basis.now }
     ensures added { OnOk result ((word : _) → slice_get circuit.now.binding.words w ≡ Some word → AddsWord word basis.now list.old.items list.new.items) }
-    ensures over { OnOk result (AreOver (F.degree field.now) (F.product field.now) list.old.items → AreOver (F.degree field.now) (F.product field.now) list.new.items) }
+    ensures over { OnOk result (AreOver (F.degree _field.now) (F.product _field.now) list.old.items → AreOver (F.degree _field.now) (F.product _field.now) list.new.items) }
 {
     match circuit.binding().role(w) {
         Role::Input | Role::State | Role::Fed => {
             let nets = nets_of(alloc, circuit, w)?;
-            let basis = copied(alloc, field, basis)?;
             list.push(CircuitWord {
                 role: Role::Input,
                 nets,
-                basis,
+                basis: *basis,
             })?;
             Ok(())
         }
@@ -108,20 +90,4 @@ fn nets_of(alloc: Global, circuit: &Combinational, w: u32) -> Result<Vec<u32>, A
         nets.push(binding.net(w, place))?;
     }
     Ok(nets)
-}
-
-// The same basis anew.
-fn copied<F: Field>(alloc: Global, field: &F, basis: &Basis) -> Result<Basis, AllocError>
-    requires { IsBasisOver (F.degree field.now) (F.product field.now) basis.now }
-    ensures elements { IfOk result (λ copy. elements_of copy ≡ elements_of basis.now) }
-    ensures over { IfOk result (λ copy. IsBasisOver (F.degree field.now) (F.product field.now) copy) }
-{
-    let mut list = Vec::new(alloc);
-    for i in 0..field.k() {
-        list.push(basis.element(i))?;
-    }
-    match Basis::list(field, &list) {
-        Ok(copy) => Ok(copy),
-        Err(_) => unreachable!(),
-    }
 }

@@ -1,12 +1,12 @@
 //! The polynomial of a table.
-ghost use Rattle.std.specs.Prelude.{◌≡◌, ◌*◌, ◌<◌, ◌≤◌, ◌^◌, ℕ, length, drop, slice_index, slice_set, IfOk, OnOk};
+ghost use Rattle.std.specs.Prelude.{◌≡◌, ◌*◌, ◌<◌, ◌≤◌, ◌^◌, ℕ, length, drop, slice_set, IfOk, OnOk};
 ghost use Rattle.std.specs.List.{AllByRecursion};
 ghost use Rattle.gf_field.specs.Element.{AreElements};
 ghost use Rattle.poly_mixed.specs.Polynomial.{IsElement, IsReduced};
 ghost use Rattle.poly_mixed.specs.laws.Uniqueness.{IsZeros};
 ghost use Rattle.lift_table.specs.Small.{IsSmall};
 ghost use Rattle.lift_table.specs.TablePolynomial.{IsPolynomialOfTable};
-ghost use Rattle.lift_table.specs.private.Lifting.{AddsPowers, AddsTable, AreOfWords};
+ghost use Rattle.lift_table.specs.private.Lifting.{AddsPart, AddsPowers, AreOfWords, IsPart};
 ghost use Rattle.lift_table.specs.private.Products.{AreProducts};
 
 use crate::gather::gather;
@@ -48,16 +48,9 @@ fn add_terms<F: Field>(
     sum: &mut Poly,
 ) -> Result<(), AllocError>
     requires products { AreProducts (F.degree field.now) (F.product field.now) products.now }
-    requires small { IsSmall (F.degree field.now) words }
-    requires few { words ≤ 8 }
-    requires long { length table.now ≡ 2 ^ (F.degree field.now * words) }
-    requires elements { AreElements (F.degree field.now) table.now }
-    requires exponents { AllByRecursion (IsElement (F.degree field.now)) exponents.now }
-    requires zeros { (v : ℕ) → v < words → slice_index exponents.now v ≡ 0 }
+    requires part { IsPart (F.degree field.now) words exponents.now table.now }
     requires sum { IsReduced (F.degree field.now) sum.old.terms }
-    ensures reduced { OnOk result (IsReduced (F.degree field.now) sum.new.terms) }
-    ensures values { OnOk result (AddsTable (F.degree field.now) (F.product field.now) words exponents.now table.now sum.old.terms sum.new.terms) }
-    ensures words { OnOk result ((all : ℕ) → words ≤ all → IsZeros (drop all exponents.now) → AreOfWords all sum.old.terms → AreOfWords all sum.new.terms) }
+    ensures { OnOk result (AddsPart (F.degree field.now) (F.product field.now) words exponents.now table.now sum.old.terms sum.new.terms) }
 {
     if words == 0 {
         return add_term(alloc, field, exponents, table[0], sum);

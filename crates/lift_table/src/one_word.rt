@@ -1,8 +1,8 @@
 //! Interpolation in one word.
-ghost use Rattle.std.specs.Prelude.{◌≡◌, ◌*◌, ◌<◌, ◌≤◌, ◌^◌, ℕ, length, slice_index, IfOk};
+ghost use Rattle.std.specs.Prelude.{◌≡◌, ◌*◌, ◌<◌, ◌≤◌, ◌^◌, ℕ, length, slice_index, IfOk, OnOk};
 ghost use Rattle.gf_field.specs.Element.{AreElements};
 ghost use Rattle.gf_field.specs.Polynomial.{sum_of_first};
-ghost use Rattle.lift_table.specs.private.Columns.{AreCoefficients, AreColumns};
+ghost use Rattle.lift_table.specs.private.Columns.{AddsCoefficients, AreCoefficients, AreColumns};
 ghost use Rattle.lift_table.specs.private.Products.{AreProducts};
 
 use crate::gather::gather;
@@ -39,8 +39,8 @@ fn raise<F: Field>(field: &F, products: &[u64], values: &mut Vec<u64>)
     }
 }
 
-/// The coefficients of the polynomial in one word that has these values at the elements of the field.
-pub(crate) fn coefficients<F: Field>(
+// The coefficients of the polynomial in one word that has these values at the elements of the field.
+fn coefficients<F: Field>(
     alloc: Global,
     field: &F,
     products: &[u64],
@@ -61,6 +61,25 @@ pub(crate) fn coefficients<F: Field>(
     Ok(list)
 }
 
+// Adds the coefficients of the polynomial in one word that has these values.
+fn add_column<F: Field>(
+    alloc: Global,
+    field: &F,
+    products: &[u64],
+    values: &[u64],
+    list: &mut Vec<u64>,
+) -> Result<(), AllocError>
+    requires small { F.degree field.now ≤ 8 }
+    requires products { AreProducts (F.degree field.now) (F.product field.now) products.now }
+    requires long { length values.now ≡ 2 ^ F.degree field.now }
+    requires elements { AreElements (F.degree field.now) values.now }
+    ensures { OnOk result (AddsCoefficients (F.degree field.now) (F.product field.now) values.now list.old.items list.new.items) }
+{
+    let column = coefficients(alloc, field, products, values)?;
+    list.extend_from_slice(&column)?;
+    Ok(())
+}
+
 /// The coefficients in the last word: for each of n inputs of the others, that of each power.
 pub(crate) fn columns<F: Field>(
     alloc: Global,
@@ -79,8 +98,7 @@ pub(crate) fn columns<F: Field>(
     let mut list = Vec::new(alloc);
     for row in 0..n {
         let values = gather(alloc, table, n, row, count)?;
-        let column = coefficients(alloc, field, products, &values)?;
-        list.extend_from_slice(&column)?;
+        add_column(alloc, field, products, &values, &mut list)?;
     }
     Ok(list)
 }

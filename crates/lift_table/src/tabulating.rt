@@ -1,14 +1,12 @@
 //! The table of a circuit's output.
-ghost use Rattle.std.specs.Prelude.{◌≡◌, ◌≤◌, ◌<◌, ◌^◌, ℕ, [], length, IfOk};
+ghost use Rattle.std.specs.Prelude.{◌≡◌, ◌≤◌, ◌<◌, ◌^◌, ℕ, length, IfOk};
 ghost use Rattle.lists.specs.Lists.{Has};
-ghost use Rattle.gf_basis.specs.BasisParts.{IsBasisOver};
 ghost use Rattle.circuit_model.specs.Bases.{AreBases, circuit_in};
-ghost use Rattle.circuit_model.specs.Flat.{AreOver, circuit_of_parts};
+ghost use Rattle.circuit_model.specs.Flat.{circuit_of_parts};
 ghost use Rattle.circuit_model.specs.Out.{IsOut};
-ghost use Rattle.circuit_model.specs.WellFormed.{IsWellFormed};
 ghost use Rattle.lift_table.specs.CircuitTable.{IsTableOf};
 ghost use Rattle.lift_table.specs.Small.{IsSmall};
-ghost use Rattle.lift_table.specs.private.Circuits.{IsOutAtRow};
+ghost use Rattle.lift_table.specs.private.Circuits.{AreParts, IsOutAtRow};
 ghost use Rattle.lift_table.specs.private.Digits.{digits_of};
 
 use crate::circuit_words::{circuit_words, output_word};
@@ -33,13 +31,27 @@ pub fn table<F: Field>(
     requires small { IsSmall (F.degree field.now) (length (circuit_in (F.degree field.now) (F.product field.now) circuit.now bases.now).words) }
     ensures { IfOk result (λ table. IsTableOf (circuit_in (F.degree field.now) (F.product field.now) circuit.now bases.now) table.items) }
 {
-    let net = circuit.net();
     let words = circuit_words(alloc, field, circuit, bases)?;
     let to = output_word(alloc, field, circuit, bases)?;
+    table_over(alloc, field, circuit.net(), &words, &to)
+}
+
+// The output of the circuit of these parts at each input, by row.
+fn table_over<F: Field>(
+    alloc: Global,
+    field: &F,
+    net: &Net,
+    words: &[CircuitWord],
+    to: &CircuitWord,
+) -> Result<Vec<u64>, AllocError>
+    requires small { IsSmall (F.degree field.now) (length words.now) }
+    requires parts { AreParts (F.degree field.now) (F.product field.now) net.now words.now to.now }
+    ensures { IfOk result (λ table. IsTableOf (circuit_of_parts (F.degree field.now) (F.product field.now) net.now words.now to.now) table.items) }
+{
     let rows = rows_of(field, words.len() as u32);
     let mut table = Vec::new(alloc);
     for row in 0..rows {
-        let value = value_at(alloc, field, net, &words, &to, row)?;
+        let value = value_at(alloc, field, net, words, to, row)?;
         table.push(value)?;
     }
     Ok(table)
@@ -61,10 +73,26 @@ pub fn output_at<F: Field>(
     requires elements { (x : ℕ) → Has xs.now x → x < 2 ^ F.degree field.now }
     ensures { IfOk result (IsOut (circuit_in (F.degree field.now) (F.product field.now) circuit.now bases.now) xs.now) }
 {
-    let net = circuit.net();
     let words = circuit_words(alloc, field, circuit, bases)?;
     let to = output_word(alloc, field, circuit, bases)?;
-    match output(alloc, field, net, &words, &to, xs)? {
+    output_over(alloc, field, circuit.net(), &words, &to, xs)
+}
+
+// The output of the circuit of these parts at an input.
+fn output_over<F: Field>(
+    alloc: Global,
+    field: &F,
+    net: &Net,
+    words: &[CircuitWord],
+    to: &CircuitWord,
+    xs: &[u64],
+) -> Result<u64, AllocError>
+    requires parts { AreParts (F.degree field.now) (F.product field.now) net.now words.now to.now }
+    requires long { length xs.now ≡ length words.now }
+    requires elements { (x : ℕ) → Has xs.now x → x < 2 ^ F.degree field.now }
+    ensures { IfOk result (IsOut (circuit_of_parts (F.degree field.now) (F.product field.now) net.now words.now to.now) xs.now) }
+{
+    match output(alloc, field, net, words, to, xs)? {
         Some(value) => Ok(value),
         None => unreachable!(),
     }
@@ -80,17 +108,11 @@ fn value_at<F: Field>(
     row: usize,
 ) -> Result<u64, AllocError>
     requires small { F.degree field.now ≤ 8 }
-    requires flat { net.now.latches ≡ [] }
-    requires over { AreOver (F.degree field.now) (F.product field.now) words.now }
-    requires over_output { IsBasisOver (F.degree field.now) (F.product field.now) to.now.basis }
-    requires well { IsWellFormed (circuit_of_parts (F.degree field.now) (F.product field.now) net.now words.now to.now) }
+    requires parts { AreParts (F.degree field.now) (F.product field.now) net.now words.now to.now }
     ensures { IfOk result (IsOutAtRow (F.degree field.now) (F.product field.now) net.now words.now to.now row) }
 {
     let xs = digits(alloc, field, words.len(), row)?;
-    match output(alloc, field, net, words, to, &xs)? {
-        Some(value) => Ok(value),
-        None => unreachable!(),
-    }
+    output_over(alloc, field, net, words, to, &xs)
 }
 
 // The digits of a row in base `2^k`, the lowest one first.

@@ -1,5 +1,5 @@
 -- Lists of the coefficients in one word. Source: this project's own.
-use Rattle.std.specs.Prelude.{◌≡◌, ℕ, ◌+◌, ◌*◌, ◌<◌, ◌^◌, List, length, slice_index}
+use Rattle.std.specs.Prelude.{◌≡◌, ℕ, ◌+◌, ◌*◌, ◌<◌, ◌^◌, List, ◌++◌, length, slice_index}
 use Rattle.gf_field.specs.Element.{AreElements}
 use Rattle.lift_table.specs.OneWord.{coefficient_of}
 
@@ -8,6 +8,12 @@ pub record AreCoefficients (k : ℕ) (mul : ℕ → ℕ → ℕ) (values coeffic
   pub long : length coefficients ≡ 2 ^ k
   pub at : (e : ℕ) → e < 2 ^ k → slice_index coefficients e ≡ coefficient_of k mul (slice_index values) e
   pub elements : AreElements k coefficients
+
+-- new is old and the coefficients of these values behind it
+pub record AddsCoefficients (k : ℕ) (mul : ℕ → ℕ → ℕ) (values old new : List ℕ) : Type 0 where
+  pub column : List ℕ
+  pub are : AreCoefficients k mul values column
+  pub is : new ≡ old ++ column
 
 -- for each of n inputs of the other words, the coefficients in the last word
 pub record AreColumns (k : ℕ) (mul : ℕ → ℕ → ℕ) (n : ℕ) (table columns : List ℕ) : Type 0 where

@@ -1,28 +1,26 @@
-use Rattle.std.proofs.Common.{◌≡◌, ◌∙◌, ap, sym, map, Some, arith}
-use Rattle.std.specs.Prelude.{slice_get}
-use Rattle.std.specs.Option.{option_map}
-use Rattle.std.proofs.lemmas.Option.{slice_get-map}
-use Rattle.lists.specs.laws.ReadLaws.{got_read, get_below as some_at}
+use Rattle.std.proofs.Common.{◌≡◌, ◌∙◌, ap, sym, subst, map, length}
+use Rattle.net_words.specs.Binding.{Binding, IsBinding}
 use Rattle.net_words.specs.BoundTo.{output_bits}
 use Rattle.net_words.specs.declared.word.Role.TheVariants.{Output}
 use Rattle.gf_basis.specs.BasisParts.{elements_of}
 use Rattle.circuit_model.specs.OfBinding.{output_basis}
-use Rattle.lift_table.proofs.CircuitWordLemmas.{at_output}
 use Rattle.lift_table.proofs.circuit_words.output_word.Goals as goal
 
-pub copied-requires : goal.copied-requires
-copied-requires g c =
-    c.requires.each c.index-bases-w.result (c.output_place-w.result, got_read c.args.bases.now c.output_place-w.result c.index-bases-w.result (omega (arith, c.requires.long, c.output_place-w.ensures.within)) c.index-bases-w.is)
+pub output_basis-basis-requires-clause-one : goal.output_basis-basis-requires-clause-one
+output_basis-basis-requires-clause-one g c =
+    let P : Binding → Type 0 = λ b. IsBinding b in
+    subst P (sym c.binding-binding.ensures.binding) c.binding-binding.ensures.is_bound.parts
+
+pub output_basis-basis-requires-clause-long : goal.output_basis-basis-requires-clause-long
+output_basis-basis-requires-clause-long g c = c.requires.long ∙ sym (ap (λ (b : Binding). length b.words) c.binding-binding.ensures.binding)
 
 pub returns-clause-word : goal.returns-clause-word
 returns-clause-word g c =
     let words = c.args.circuit.now.binding.words in
-    let bases = c.args.bases.now in
-    let w = c.output_place-w.result in
-    let word = some_at words w c.output_place-w.ensures.within in
-    let at : slice_get bases w ≡ Some c.index-bases-w.result = got_read bases w c.index-bases-w.result (omega (arith, c.requires.long, c.output_place-w.ensures.within)) c.index-bases-w.is in
-    let elements : slice_get (map elements_of bases) w ≡ Some (elements_of c.index-bases-w.result) = slice_get-map elements_of bases w ∙ ap (option_map elements_of) at in
-    let both = at_output words (map elements_of bases) w word.0 (elements_of c.index-bases-w.result) word.1 elements (c.output_place-w.ensures.output word.0 word.1) c.output_place-w.ensures.is_bound.parts.one in
-    let nets : c.in_ok-nets.nets.items ≡ output_bits words = c.in_ok-nets.ensures word.0 word.1 ∙ sym both.0 in
-    let basis : elements_of c.in_ok-basis.basis ≡ output_basis words (map elements_of bases) = c.in_ok-basis.ensures.elements ∙ sym both.1 in
+    let bases = map elements_of c.args.bases.now in
+    let nets : c.in_ok-nets.nets.items ≡ output_bits words = c.in_ok-nets.ensures ∙ ap (λ (b : Binding). output_bits b.words) c.binding-binding.ensures.binding in
+    let basis : elements_of c.output_basis-basis.result.now ≡ output_basis words bases = c.output_basis-basis.ensures.basis ∙ ap (λ (b : Binding). output_basis b.words bases) c.binding-binding.ensures.binding in
     λ i. record { role = Output; nets = nets i; basis = basis i }
+
+pub returns-clause-over : goal.returns-clause-over
+returns-clause-over g c = c.requires.each c.output_basis-basis.result.now c.output_basis-basis.ensures.among
