@@ -1,7 +1,9 @@
 -- Fronts of lists.
-use Rattle.std.proofs.Common.{◌≡◌, ◌∙◌, ap, sym, refl, ℕ, zero, suc, ◌<◌, ◌≤◌, ◌+◌, List, [], ◌∷◌, ◌++◌, length, take, drop, get_or, append-nil, arith}
-use Rattle.std.proofs.lemmas.List.{append_assoc}
+use Rattle.std.proofs.Common.{◌≡◌, ◌∙◌, ap, sym, refl, ℕ, zero, suc, ◌<◌, ◌≤◌, ◌+◌, List, [], ◌∷◌, ◌++◌, length, map, take, drop, get_or, append-nil, arith}
+use Rattle.std.proofs.lemmas.List.{append_assoc, length-take-le, map-append}
+use Rattle.lists.specs.laws.ListLaws.{length_map as map_long}
 use Rattle.lists.specs.laws.TakeLaws.{drop_read}
+use Rattle.net_words.specs.declared.feed.FeedText.{FeedText}
 use Rattle.net_words.specs.declared.word.WordText.{WordText}
 use Rattle.make_nets.proofs.LabelLemmas.{append_long}
 use Rattle.make_nets.specs.Ports.{word_names}
@@ -33,6 +35,26 @@ take_past (x ∷ xs) (suc i) less = ap (λ (zs : List _). x ∷ zs) (take_past x
 -- one more, after names before
 pub joined : {X : Type 0} (ns xs more list : List X) (x : X) → list ≡ xs ++ x ∷ more → ns ++ list ≡ ((ns ++ xs) ++ x ∷ []) ++ more
 joined ns xs more list x is = ap (λ (zs : List _). ns ++ zs) is ∙ (sym (append_assoc ns xs (x ∷ more)) ∙ sym (append_assoc (ns ++ xs) (x ∷ []) more))
+
+-- one more of the names behind others
+pub front_more : {X : Type 0} (ns xs : List X) (i : ℕ) (x y : X) → i < length xs → x ≡ get_or xs i x → y ≡ x → (ns ++ take i xs) ++ y ∷ [] ≡ ns ++ take (i + 1) xs
+front_more ns xs i x y less is same =
+    ap (λ (z : _). (ns ++ take i xs) ++ z ∷ []) same
+    ∙ append_assoc ns (take i xs) (x ∷ [])
+    ∙ ap (λ (zs : List _). ns ++ zs) (sym (take_more xs i x less is))
+
+pub front_long : {X : Type 0} (ns xs : List X) (i count before : ℕ) → i < length xs → length ns ≡ before → count ≡ before + i → length (ns ++ take i xs) ≡ count
+front_long ns xs i count before less long is = omega (arith, append_long ns (take i xs), length-take-le i xs (omega (arith, less)), long, is)
+
+pub fed_more : (ns : List (List ℕ)) (feeds : List FeedText) (i : ℕ) (feed : FeedText) (name : List ℕ) → i < length feeds → feed ≡ get_or feeds i feed → name ≡ feed.net → (ns ++ map (λ (f : FeedText). f.net) (take i feeds)) ++ name ∷ [] ≡ ns ++ map (λ (f : FeedText). f.net) (take (i + 1) feeds)
+fed_more ns feeds i feed name less is same =
+    ap (λ z. (ns ++ map (λ (f : FeedText). f.net) (take i feeds)) ++ z ∷ []) same
+    ∙ append_assoc ns (map (λ (f : FeedText). f.net) (take i feeds)) (feed.net ∷ [])
+    ∙ ap (λ zs. ns ++ zs) (sym (ap (map (λ (f : FeedText). f.net)) (take_more feeds i feed less is) ∙ map-append (λ (f : FeedText). f.net) (take i feeds) (feed ∷ [])))
+
+pub fed_long : (ns : List (List ℕ)) (feeds : List FeedText) (i count before : ℕ) → i < length feeds → length ns ≡ before → count ≡ before + i → length (ns ++ map (λ (f : FeedText). f.net) (take i feeds)) ≡ count
+fed_long ns feeds i count before less long is =
+    omega (arith, append_long ns (map (λ (f : FeedText). f.net) (take i feeds)), map_long (λ (f : FeedText). f.net) (take i feeds), length-take-le i feeds (omega (arith, less)), long, is)
 
 pub names_append : (xs ys : List WordText) → word_names (xs ++ ys) ≡ word_names xs ++ word_names ys
 names_append [] ys = refl

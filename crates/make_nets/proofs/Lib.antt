@@ -12,6 +12,7 @@ pub mod RowLemmas
 pub mod RowShapeLemmas
 pub mod WordLists
 pub mod FrontLemmas
+pub mod RestLemmas
 pub mod OuterLemmas
 pub mod MostLemmas
 pub mod PortLemmas

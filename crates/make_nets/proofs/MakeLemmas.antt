@@ -42,6 +42,10 @@ module _ (words : List WordText) (fed : List (List ℕ)) (latches : List LatchVa
   names_long : length (outer_names words fed) ≡ length (word_names words) + length fed
   names_long = append_long (word_names words) fed
 
+  -- and how many they are at most
+  pub outer_few : length (word_names words) + length fed ≤ 1048576
+  outer_few = omega (arith, names_long, fits.shape.from, fits.few)
+
   input_low : (n : ℕ) → Has (inputs_of words fed) n → n < length (outer_names words fed)
   input_low n has = elim (Has_cases (role_nets Input 0 words) (range_with_len (length (word_names words)) (length fed)) n has) [
     | inl w ↦ omega (arith, (role_low Input 0 words n w).1, names_long)
@@ -78,6 +82,9 @@ inputs_at words fed list new count long is counted fits more =
 module _ (words : List WordText) (fed : List (List ℕ)) (latches : List LatchValue) (plan : Plan) (maker : NetList) (prefix inputs outputs : List ℕ) (made : maker ≡ outer_net (outer_names words fed)) (prefixed : prefix ≡ prefix_of (outer_names words fed)) (ins : inputs ≡ inputs_of words fed) (outs : outputs ≡ outputs_of words) where
   names_at : names_in maker ≡ outer_names words fed
   names_at = ap names_in made ∙ names_of_outer (outer_names words fed)
+
+  pub outer_at : (count long outer : ℕ) → count ≡ length (word_names words) → long ≡ length fed → outer ≡ count + long → outer ≡ length (names_in maker)
+  outer_at count long outer counted long_is is = omega (arith, ap (λ (v : List (List ℕ)). length v) names_at, append_long (word_names words) fed, counted, long_is, is)
 
   pub maker_at : maker ≡ outer_net (names_in maker)
   maker_at = made ∙ ap outer_net (sym names_at)

@@ -115,6 +115,10 @@ pub refuse_all : (front more all : List (List ℕ)) (maker : NetList) (b : Bool)
 refuse_all front more all maker true made is same are = absurd (cc)
 refuse_all front more all maker false made is same are = let P : List (List ℕ) → Type 0 = λ x. AreMakerNames x in made (names_front front more (subst P same are))
 
+pub not_made : (ns : List (List ℕ)) (maker : NetList) (b : Bool) → AreMade ns maker b → b ≡ false → AreMakerNames ns → ⊥
+not_made ns maker true made is are = absurd (cc)
+not_made ns maker false made is are = made are
+
 -- where they could, they were
 pub made_with : (ns : List (List ℕ)) (maker : NetList) (b : Bool) → AreMade ns maker b → b ≡ true → AreMade ns maker true
 made_with ns maker true made is = made

@@ -11,7 +11,15 @@ use Rattle.make_nets.specs.Plan.{Plan, with_and, with_xor}
 use Rattle.make_nets.specs.PlanValue.{Agrees, bit_at_net}
 use Rattle.make_nets.proofs.EachLemmas.{each_keeps}
 use Rattle.make_nets.proofs.ValueLemmas.{agrees_before, and_value, xor_value}
-use Rattle.make_nets.specs.Row.{Row, begun_row, row_by, next_net, and_row, xor_row}
+use Rattle.make_nets.specs.Row.{Row, begun_row, row_by, row_of, next_net, and_row, xor_row}
+
+-- one place more, whose net is the next one
+pub next_place : (after : ℕ → Plan → Plan) (start old new : Plan) (nets all : List ℕ) (j n : ℕ) → row_of old nets ≡ row_by j after next_net start → new ≡ after j old → n ≡ old.next → all ≡ nets ++ n ∷ [] → row_of new all ≡ row_by (j + 1) after next_net start
+next_place after start old new nets all j n before is_plan is_net is =
+    let one_more : suc j ≡ j + 1 = omega arith in
+    ap₂ row_of is_plan (is ∙ ap (λ m. nets ++ m ∷ []) is_net)
+    ∙ ap (λ (row : Row). row_of (after j row.plan) (row.nets ++ row.plan.next ∷ [])) before
+    ∙ ap (λ m. row_by m after next_net start) one_more
 
 -- the net of each place has the value of the place
 abbrev pub HaveValues : List Bool → List ℕ → (ℕ → ℕ) → Type 0

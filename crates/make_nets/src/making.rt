@@ -34,7 +34,7 @@ pub fn make(
     push_range(&mut inputs, count, feeds.len())?;
     let outputs = role_nets(alloc, words, Role::Output)?;
     let outer = count + feeds.len() as u32;
-    let net = finish(
+    finish(
         alloc,
         maker,
         outer,
@@ -43,6 +43,5 @@ pub fn make(
         &outputs,
         latches,
         plan,
-    )?;
-    Ok(net)
+    )
 }

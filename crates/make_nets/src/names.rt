@@ -6,7 +6,8 @@ ghost use Rattle.net_core.specs.NetList.{nets, number_of, with_label};
 ghost use Rattle.make_nets.specs.MadeNet.{names_in, outer_net, with_inner};
 ghost use Rattle.make_nets.specs.Makeable.{AreNames, IsPrefix};
 
-use net_core::{NetFault, NetMaker};
+use crate::outer::named;
+use net_core::NetMaker;
 use std::alloc::{AllocError, Global};
 
 /// Makes a net of a new name. There are fewer than 1,048,576 nets before.
@@ -16,11 +17,8 @@ pub fn add_name(maker: &mut NetMaker, name: &str) -> Result<(), AllocError>
     requires room { nets maker.old < most_nets }
     ensures { OnOk result (maker.new ≡ with_label maker.old name.now true) }
 {
-    match maker.net(name) {
-        Ok(_) => Ok(()),
-        Err(NetFault::OutOfMemory) => Err(AllocError),
-        Err(_) => unreachable!(),
-    }
+    named(maker, name)?;
+    Ok(())
 }
 
 // Makes inner nets: the prefix and 0, 1, .. are their names.

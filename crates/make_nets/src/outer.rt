@@ -36,7 +36,7 @@ fn is_maker_name(name: &str) -> bool
 }
 
 // The number of the net of this name, which is made if there is none.
-fn named(maker: &mut NetMaker, name: &str) -> Result<u32, AllocError>
+pub(crate) fn named(maker: &mut NetMaker, name: &str) -> Result<u32, AllocError>
     requires name { IsNetName name.now }
     requires room { nets maker.old < most_nets }
     ensures number { IfOk result (λ n. number_of maker.new name.now ≡ Some n) }

@@ -1,10 +1,29 @@
-use Rattle.std.proofs.Common.{◌∙◌, ◌++◌, ◌∷◌, [], ◌+◌, List, ℕ, true, arith, ap, sym, subst, map, take, drop}
+use Rattle.std.proofs.Common.{◌∙◌, ◌++◌, ◌∷◌, [], ◌+◌, List, ℕ, true, arith, ap, sym, subst, append-nil, map, take, drop}
 use Rattle.std.proofs.lemmas.List.{map-append}
 use Rattle.net_words.specs.declared.feed.FeedText.{FeedText}
 use Rattle.make_nets.specs.MakerNames.{AreMade}
-use Rattle.make_nets.proofs.FrontLemmas.{joined, split_at, take_past}
-use Rattle.make_nets.proofs.OuterLemmas.{refuse_all}
+use Rattle.make_nets.proofs.FrontLemmas.{fed_long, fed_more, joined, split_at, take_past}
+use Rattle.make_nets.proofs.OuterLemmas.{made_with, refuse_all}
 use Rattle.make_nets.proofs.outer.add_fed_names.Goals as goal
+
+pub loop-feed-init : goal.loop-feed-init
+loop-feed-init c =
+    let P : List (List ℕ) → Type 0 = λ ns. AreMade ns c.args.maker.now true in
+    (λ names was. subst P (sym (append-nil names)) was, omega arith)
+
+pub add_name-requires : goal.add_name-requires
+add_name-requires c = record {
+  before = (c.requires.before.0 ++ map (λ (f : FeedText). f.net) (take c.loop-feed.feed-index c.args.feeds.now), c.loop-feed.invariant.0 c.requires.before.0 c.requires.before.1, fed_long c.requires.before.0 c.args.feeds.now c.loop-feed.feed-index c.loop-feed.count c.args.count c.loop-feed-test.true c.requires.before.2 c.loop-feed.invariant.1);
+  room = omega (arith, c.loop-feed.invariant.1, c.loop-feed-test.true, c.requires.room);
+}
+
+pub loop-feed-preserved : goal.loop-feed-preserved
+loop-feed-preserved c =
+    let P : List (List ℕ) → Type 0 = λ ns. AreMade ns c.add_name.new.maker true in (
+      λ names was. subst P (fed_more names c.args.feeds.now c.loop-feed.feed-index c.feed-item.result c.as_str.result.now c.loop-feed-test.true c.feed-item.is c.as_str.ensures)
+          (made_with ((names ++ map (λ (f : FeedText). f.net) (take c.loop-feed.feed-index c.args.feeds.now)) ++ c.as_str.result.now ∷ []) c.add_name.new.maker c.in_ok-add_name.field-0 (c.in_ok-add_name.ensures (names ++ map (λ (f : FeedText). f.net) (take c.loop-feed.feed-index c.args.feeds.now)) (c.loop-feed.invariant.0 names was)) c.if-not-branch.false),
+      omega (arith, c.loop-feed.invariant.1),
+    )
 
 pub returns-then-not-branch : goal.returns-then-not-branch
 returns-then-not-branch c = λ names was. let f : FeedText → List ℕ = λ feed. feed.net in
