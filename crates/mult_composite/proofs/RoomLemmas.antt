@@ -9,6 +9,10 @@ use Rattle.lists.specs.laws.NumberLaws.{mul_few, square_few as pairs_few}
 pub square_few : (n : ℕ) → n ≤ 32 → n * n ≤ 1024
 square_few n small = mul_few n n 32 32 small small
 
+-- so many nets more
+pub square_more : (k old new : ℕ) → k ≤ 32 → new ≡ old + k * k → new ≤ old + 2 ^ 10
+square_more k old new small is = omega (arith, is, square_few k small)
+
 pub sums_few : (n m : ℕ) → n ≤ 32 → m ≤ 64 → (2 * m - 1) * n ≤ 4064
 sums_few n m small few = mul_few (2 * m - 1) n 127 32 (omega arith) small
 

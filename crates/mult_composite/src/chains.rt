@@ -13,8 +13,7 @@ pub(crate) fn sum_of(plan: &mut PlanMaker, list: &[u32]) -> Result<u32, AllocErr
     ensures made { OnOk result (plan.new ≡ with_chain None list.now plan.old) }
     ensures next { OnOk result (plan.new.next ≤ plan.old.next + (length list.now + 1)) }
 {
-    let net = plan.chain(list)?;
-    Ok(net)
+    plan.chain(list)
 }
 
 // A chain of the nets drives an outer net.
@@ -23,6 +22,5 @@ pub(crate) fn sum_into(plan: &mut PlanMaker, out: u32, list: &[u32]) -> Result<(
     ensures made { OnOk result (plan.new ≡ with_chain (Some out) list.now plan.old) }
     ensures next { OnOk result (plan.new.next ≤ plan.old.next + (length list.now + 1)) }
 {
-    plan.chain_into(out, list)?;
-    Ok(())
+    plan.chain_into(out, list)
 }

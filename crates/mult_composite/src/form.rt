@@ -31,8 +31,5 @@ pub(crate) fn composite_ports(
     if !signature.upper().is_empty() || !all_poly(signature.words()) {
         return Err(MakeFault::Unfit);
     }
-    match ports(alloc, signature, k, 2) {
-        Ok(maker) => Ok(maker),
-        Err(fault) => Err(fault),
-    }
+    ports(alloc, signature, k, 2)
 }

@@ -92,8 +92,7 @@ fn plan_of(
     let powers = high_powers(alloc, tower, n, m)?;
     let power_list = powers.as_slice();
     let z = outputs.as_slice();
-    let plan = gates(alloc, tower.base(), n, m, power_list, first, a, b, z)?;
-    Ok(plan)
+    gates(alloc, tower.base(), n, m, power_list, first, a, b, z)
 }
 
 // The net over the nets of the words.

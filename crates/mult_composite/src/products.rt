@@ -36,8 +36,7 @@ fn products_of_bits(plan: &mut PlanMaker, n: usize, a: &[u32], b: &[u32]) -> Res
     ensures made { OnOk result (plan.new ≡ bit_products_of n a.now b.now plan.old) }
     ensures next { OnOk result (plan.new.next ≤ plan.old.next + 2 ^ 10) }
 {
-    bit_products(plan, a, b)?;
-    Ok(())
+    bit_products(plan, a, b)
 }
 
 // Of these products, which are numbered from `first`, those that add to bit l.
@@ -58,8 +57,7 @@ fn products_for_bit(
     ensures list { IfOk result (λ list. list.items ≡ added_products_of n (modulus_of (ring_of base.now)) first l) }
     ensures few { IfOk result (λ list. length list.items ≤ 2 ^ 10) }
 {
-    let list = added_products(alloc, base, powers, n, first, l)?;
-    Ok(list)
+    added_products(alloc, base, powers, n, first, l)
 }
 
 // The product of two coefficients on these nets: a net for each bit.
@@ -123,8 +121,7 @@ fn coefficient_product(
 {
     let first = coefficient_nets(a, n, m, i);
     let second = coefficient_nets(b, n, m, j);
-    let nets = base_product(alloc, plan, base, powers, n, first, second)?;
-    Ok(nets)
+    base_product(alloc, plan, base, powers, n, first, second)
 }
 
 // The products of each coefficient of `a` and each of `b`, m coefficients each.

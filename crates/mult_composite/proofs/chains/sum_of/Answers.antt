@@ -1,7 +1,7 @@
-use Rattle.std.proofs.Common.{arith, None, ap}
-use Rattle.make_nets.specs.Plan.{Plan}
-use Rattle.make_nets.proofs.ShapeLemmas.{chain_grows}
+use Rattle.std.proofs.Common.{None}
+use Rattle.std.proofs.lemmas.Result.{on_ok_weaker}
+use Rattle.mult_composite.proofs.ListLemmas.{chain_few}
 use Rattle.mult_composite.proofs.chains.sum_of.Goals as goal
 
 pub returns-clause-next : goal.returns-clause-next
-returns-clause-next c = omega (arith, ap (λ (p : Plan). p.next) c.in_ok-net.ensures.made, (chain_grows None c.args.list.now c.args.plan.now).1)
+returns-clause-next c = on_ok_weaker c.chain.result (chain_few None c.args.list.now c.args.plan.now c.chain.new.self) c.chain.ensures.made
