@@ -2,11 +2,11 @@
 use Rattle.std.proofs.Common.{◌≡◌, ◌⊎◌, ◌∙◌, ap, ap₂, refl, subst, inl, inr, ℕ, zero, suc, ◌<◌, ◌≤◌, ◌+◌, ◌*◌, mul-suc, mul-le-mul_left, List, [], ◌∷◌, ◌++◌, length, length-append, None, arith}
 use Rattle.std.specs.Prelude.{◌==◌}
 use Rattle.std.specs.Int.{bit_at}
-use Rattle.std.proofs.lemmas.List.{length_push}
+use Rattle.std.proofs.lemmas.List.{append_assoc, length_push}
 use Rattle.lists.specs.Lists.{Has}
 use Rattle.lists.specs.laws.HasLaws.{Has_cases, none_at}
 use Rattle.gf_field.specs.Power.{power}
-use Rattle.make_nets.specs.Plan.{begun, each, gathered, where_so, with_and, with_chain, chain_net}
+use Rattle.make_nets.specs.Plan.{Plan, begun, each, gathered, where_so, with_and, with_chain, chain_net}
 use Rattle.make_nets.specs.PlanShape.{IsWellMade}
 use Rattle.make_nets.proofs.OuterNets.{CanRead}
 use Rattle.make_nets.proofs.EachLemmas.{each_keeps, gathered_has}
@@ -21,6 +21,26 @@ use Rattle.mult_gen.proofs.ChainLemmas.{where_few, where_has}
 pub gathered_few : (n m : ℕ) (f : ℕ → List ℕ) → ((i : ℕ) → i < n → length (f i) ≤ m) → length (gathered n f) ≤ m * n
 gathered_few zero m f each_few = omega arith
 gathered_few (suc n) m f each_few = omega (arith, length-append (gathered n f) (f n), gathered_few n m f (λ i less. each_few i (omega arith)), each_few n (omega arith), mul-suc m n)
+
+-- one list more after those before
+pub listed_more : (f : ℕ → List ℕ) (i : ℕ) (old list new more : List ℕ) → list ≡ old ++ gathered i f → new ≡ list ++ more → more ≡ f i → new ≡ old ++ gathered (i + 1) f
+listed_more f i old list new more before is here =
+    let next : suc i ≡ i + 1 = omega arith in
+    is
+    ∙ ap₂ (λ u v. u ++ v) before here
+    ∙ append_assoc old (gathered i f) (f i)
+    ∙ ap (λ n. old ++ gathered n f) next
+
+-- one step more of gates, and of sums
+pub gates_more : (step : ℕ → Plan → Plan) (start old new : Plan) (i : ℕ) → old ≡ each i step start → new ≡ step i old → new ≡ each (i + 1) step start
+gates_more step start old new i before is =
+    let next : suc i ≡ i + 1 = omega arith in
+    is ∙ ap (step i) before ∙ ap (λ n. each n step start) next
+
+pub sums_more : (step : ℕ → Sums → Sums) (start old new : Sums) (i : ℕ) → old ≡ each i step start → new ≡ step i old → new ≡ each (i + 1) step start
+sums_more step start old new i before is =
+    let next : suc i ≡ i + 1 = omega arith in
+    is ∙ ap (step i) before ∙ ap (λ n. each n step start) next
 
 -- ---- the nets of a sum
 module _ (n k : ℕ) (mul : ℕ → ℕ → ℕ) (x width : ℕ) (z : List ℕ) where

@@ -1,4 +1,5 @@
 pub mod Front
 pub mod Powers
 pub mod ProductNets
+pub mod WordSums
 pub mod Words

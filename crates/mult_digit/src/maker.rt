@@ -3,13 +3,15 @@ ghost use Rattle.std.specs.Prelude.{◌≡◌, ◌≤◌, IfOk, OnOk, IsErrOf, I
 ghost use Rattle.gf_field.specs.Ring2k.{degree_of, modulus_of};
 ghost use Rattle.irreducible.specs.Proved.{ring_of};
 ghost use Rattle.net_core.specs.Sound.{IsSound};
+ghost use Rattle.net_words.specs.declared.word.Role.TheVariants.{Output};
 ghost use Rattle.net_write.specs.Plain.{HasPlainNames};
 ghost use Rattle.make_nets.specs.MadeNet.{outer_net};
 ghost use Rattle.make_nets.specs.MakerNames.{AreMakerNames};
-ghost use Rattle.make_nets.specs.Ports.{outer_names};
+ghost use Rattle.make_nets.specs.Ports.{outer_names, role_nets as nets_of_role, word_names};
 ghost use Rattle.mult_gen.specs.Form.{AreWide};
 ghost use Rattle.mult_digit.specs.DigitForm.{AreDigitWords, HasDigitForm, fed_names};
 ghost use Rattle.mult_digit.specs.private.Front.{IsFront};
+ghost use Rattle.mult_digit.specs.private.WordSums.{sums_modulo};
 ghost use Rattle.mult_digit.specs.DigitNet.{net_modulo};
 ghost use Rattle.mult_digit.specs.IsDigitNet.{IsDigitNetModulo};
 ghost use Rattle.mult_digit.specs.ComputesFed.{ComputesDigitsModulo};
@@ -19,12 +21,35 @@ use crate::held::{digit_nets, latches};
 use crate::sums::digit_sums;
 use gf_field::{Ring, Ring2k};
 use irreducible::Proved;
-use make_nets::{count_of, make, outer_nets, role_nets};
+use make_nets::{PlanMaker, count_of, make, outer_nets, role_nets};
 use mult_gen::{MakeFault, indeterminate};
 use net_core::{Net, NetMaker};
 use net_signature::Signature;
 use net_words::{FeedText, Role, WordText};
 use std::alloc::{AllocError, Global};
+
+// The gates over these words, whose nets are the first ones, and the nets of the sums that the nets z take.
+fn word_sums(
+    alloc: Global,
+    ring: &Proved<Ring2k>,
+    words: &[WordText],
+    first: u32,
+    width: u32,
+    z: &[u32],
+) -> Result<(PlanMaker, Vec<u32>), AllocError>
+    requires words { AreDigitWords words.now }
+    requires wide { AreWide (degree_of (ring_of ring.now)) words.now }
+    requires narrow { width ≤ degree_of (ring_of ring.now) }
+    requires first { first ≡ length (word_names words.now) }
+    requires z { z.now ≡ nets_of_role Output 0 words.now }
+    ensures plan { IfOk result (λ pair. pair.0 ≡ (sums_modulo (degree_of (ring_of ring.now)) (modulus_of (ring_of ring.now)) width words.now).plan) }
+    ensures nets { IfOk result (λ pair. pair.1.items ≡ (sums_modulo (degree_of (ring_of ring.now)) (modulus_of (ring_of ring.now)) width words.now).nets) }
+{
+    let d = digit_nets(alloc, first, width)?;
+    let b = role_nets(alloc, words, Role::Input)?;
+    let x = indeterminate(ring);
+    digit_sums(alloc, ring, x, first + width, &d, &b, z)
+}
 
 // The net over these words and the nets that the lines of the first cycle feed; all these nets were made.
 fn made(
@@ -41,16 +66,12 @@ fn made(
     requires maker { maker ≡ outer_net (outer_names words.now (fed_names front.now)) }
     ensures { IfOk result (λ net. net ≡ net_modulo (degree_of (ring_of ring.now)) (modulus_of (ring_of ring.now)) (length front.now) words.now (fed_names front.now)) }
 {
-    let first = count_of(words);
     let width = front.len() as u32;
-    let d = digit_nets(alloc, first, width)?;
-    let b = role_nets(alloc, words, Role::Input)?;
-    let z = role_nets(alloc, words, Role::Output)?;
-    let x = indeterminate(ring);
-    let (plan, sums) = digit_sums(alloc, ring, x, first + width, &d, &b, &z)?;
-    let list = latches(alloc, &sums, &z)?;
-    let net = make(alloc, maker, words, front, &list, &plan)?;
-    Ok(net)
+    let outputs = role_nets(alloc, words, Role::Output)?;
+    let z = outputs.as_slice();
+    let (plan, sums) = word_sums(alloc, ring, words, count_of(words), width, z)?;
+    let list = latches(alloc, sums.as_slice(), z)?;
+    make(alloc, maker, words, front, list.as_slice(), &plan)
 }
 
 // The number of bits of a digit, where the signature has the form but for the names of its nets.
