@@ -1,5 +1,5 @@
 -- The made nets compute the product, the square and the sum.
-use Rattle.std.proofs.Common.{◌≡◌, ◌∙◌, ap, ap₂, sym, refl, ℕ, ◌<◌, ◌≤◌, ◌^◌, List, [], length, take, drop, arith}
+use Rattle.std.proofs.Common.{◌≡◌, ◌∙◌, ap, ap₂, sym, subst, refl, ℕ, ◌<◌, ◌≤◌, ◌^◌, List, [], length, take, drop, arith}
 use Rattle.std.specs.Prelude.{bit_xor, slice_index}
 use Rattle.lists.specs.Lists.{Has}
 use Rattle.lists.specs.laws.HasLaws.{none_stands}
@@ -13,9 +13,13 @@ use Rattle.irreducible.specs.Span.{combination}
 use Rattle.irreducible.specs.laws.SpanLaws.{combination-xor}
 use Rattle.gf_basis.specs.Basis.{first_values, IsBasis}
 use Rattle.mult_gen.proofs.ChainLemmas.{index_has}
+use Rattle.net_core.specs.NetList.{NetList}
+use Rattle.net_core.specs.Sound.{IsSound}
 use Rattle.net_core.specs.Value.{index_of}
+use Rattle.net_signature.specs.Signature.{SignatureValue}
 use Rattle.net_words.specs.declared.word.Role.TheVariants.{Input}
 use Rattle.net_words.specs.declared.word.WordText.{WordText}
+use Rattle.net_write.specs.Plain.{HasPlainNames}
 use Rattle.make_laws.proofs.ProductBitLemmas.{product_bits, square_bits}
 use Rattle.make_nets.specs.Plan.{Plan}
 use Rattle.make_nets.specs.Computes.{ComputesOfOne, ComputesOfTwo}
@@ -23,11 +27,12 @@ use Rattle.make_nets.specs.Form.{AllWide, HasWords}
 use Rattle.make_nets.specs.Made.{IsPlanFor}
 use Rattle.make_nets.specs.MakerNames.{AreMakerNames}
 use Rattle.make_nets.specs.Ports.{outer_names}
-use Rattle.make_nets.proofs.MadeLemmas.{made_binds, made_sound}
+use Rattle.make_nets.proofs.MadeLemmas.{made_binds, made_plain, made_sound}
 use Rattle.make_nets.proofs.PolyLemmas.{poly_element}
 use Rattle.make_nets.proofs.RunLemmas.{computes_one, computes_two}
 use Rattle.mult_gen.specs.Chains.{adder_plan, mastrovito_plan, squarer_plan}
-use Rattle.mult_gen.specs.Form.{inputs_in, made_adder, made_mastrovito, made_squarer, outer_of, outputs_in}
+use Rattle.mult_gen.specs.Form.{AddsInEachBasis, AreWide, HasAdderForm, adder_over, inputs_in, made_adder, made_mastrovito, made_squarer, outer_of, outputs_in}
+use Rattle.mult_gen.proofs.FormLemmas.{wide_of}
 use Rattle.mult_gen.proofs.AdderLemmas.{adder_made, adder_next, adder_sum}
 use Rattle.mult_gen.proofs.MastrovitoLemmas.{mastrovito_few, mastrovito_made, mastrovito_product}
 use Rattle.mult_gen.proofs.PlanLemmas.{agrees_of, drop_has, drop_long, held, inputs_long, outer_few, output_low, outputs_long, plan_for, take_has, take_long}
@@ -102,3 +107,22 @@ adder_computes k mul ring field basis is_basis words has wide are =
     let sum = adder_sum (outer_of words) k (take k (inputs_in words)) (drop k (inputs_in words)) (outputs_in words) (take_long 2 k words has wide (omega arith)) (drop_long k words has wide) (outputs_long 2 k words has wide) bits
     (agrees_of words (adder_plan (outer_of words) k (take k (inputs_in words)) (drop k (inputs_in words)) (outputs_in words)) bits consistent) in
     sym out.is ∙ (ap (combination basis) sum ∙ (combination-xor basis (index_of bits (take k (inputs_in words))) (index_of bits (drop k (inputs_in words))) ∙ ap₂ bit_xor first.is second.is)))
+
+-- the adder of the words of a signature that has the form
+module _ (k : ℕ) (small : k ≤ 64) (signature : SignatureValue) (form : HasAdderForm signature) (wide : AreWide k signature.words) (net : NetList) (is : net ≡ made_adder k signature.words) where
+  words_wide : AllWide k signature.words
+  words_wide = wide_of k 2 signature.words form.ports.words wide
+
+  adder_for : IsPlanFor signature.words [] [] (outputs_in signature.words) (adder_over k signature.words)
+  adder_for = adder_fits k 0 small signature.words form.ports.words words_wide
+
+  pub adder_sound : IsSound net
+  adder_sound = subst IsSound (sym is) (made_sound signature.words [] [] (outputs_in signature.words) (adder_over k signature.words) form.ports.names adder_for)
+
+  pub adder_plain : HasPlainNames net
+  adder_plain = subst HasPlainNames (sym is) (made_plain signature.words [] [] (outputs_in signature.words) (adder_over k signature.words) form.ports.names adder_for)
+
+  pub adder_adds : (mul : ℕ → ℕ → ℕ) → IsRing k mul → HasNoZeroDivisors k mul → AddsInEachBasis k mul net signature.words
+  adder_adds mul ring field basis is_basis =
+      let P : NetList → Type 0 = λ net. ComputesOfTwo k mul net signature.words basis 0 bit_xor in
+      subst P (sym is) (adder_computes k mul ring field basis is_basis signature.words form.ports.words words_wide form.ports.names)

@@ -1,6 +1,8 @@
 -- Plans over the nets of input words and an output word.
-use Rattle.std.proofs.Common.{◌≡◌, ◌∙◌, ap, sym, refl, subst, inl, inr, ℕ, zero, suc, ◌<◌, ◌≤◌, ◌+◌, ◌*◌, ◌^◌, Bool, List, [], ◌∷◌, ◌++◌, length, take, drop, append-nil, arith}
-use Rattle.std.specs.Prelude.{slice_index}
+use Rattle.std.proofs.Common.{◌≡◌, ◌∙◌, ap, ap₂, sym, refl, subst, inl, inr, ℕ, zero, suc, ◌<◌, ◌≤◌, ◌+◌, ◌*◌, ◌^◌, Bool, Option, List, [], ◌∷◌, ◌++◌, length, take, drop, append-nil, arith}
+use Rattle.std.specs.Prelude.{slice_index, ◌==◌}
+use Rattle.std.specs.Int.{bit_at}
+use Rattle.std.proofs.lemmas.List.{append_assoc}
 use Rattle.std.proofs.Math.Nat.{mul-le-mul_right}
 use Rattle.lists.specs.Lists.{Has, times}
 use Rattle.lists.specs.laws.HasLaws.{Has_left, Has_right}
@@ -8,7 +10,8 @@ use Rattle.lists.specs.laws.NumberLaws.{mul_few}
 use Rattle.net_core.specs.Value.{IsConsistent}
 use Rattle.net_words.specs.declared.word.Role.TheVariants.{Input, State, Output}
 use Rattle.net_words.specs.declared.word.WordText.{WordText}
-use Rattle.make_nets.specs.Plan.{Plan}
+use Rattle.make_laws.specs.ProductBits.{x_to}
+use Rattle.make_nets.specs.Plan.{Plan, each, gathered, where_so, with_chain}
 use Rattle.make_nets.specs.PlanShape.{IsWellMade}
 use Rattle.make_nets.specs.PlanValue.{Agrees}
 use Rattle.make_nets.specs.Makeable.{driven_outside}
@@ -20,7 +23,9 @@ use Rattle.make_nets.specs.Ports.{inputs_of, outer_names, role_nets, word_names}
 use Rattle.make_nets.proofs.FormLemmas.{names_long, nets_long, no_nets, roles_once, words_one_of}
 use Rattle.make_nets.proofs.FrontLemmas.{take_drop}
 use Rattle.make_nets.proofs.MakeLemmas.{role_low}
-use Rattle.mult_gen.specs.Form.{inputs_in, outer_of, outputs_in}
+use Rattle.make_nets.proofs.ShapeLemmas.{chain_grows}
+use Rattle.mult_gen.specs.Chains.{added_row, adder_plan, mastrovito_plan, squarer_plan}
+use Rattle.mult_gen.specs.Form.{adder_over, inputs_in, mastrovito_over, outer_of, outputs_in, squarer_over}
 use Rattle.mult_gen.proofs.ChainLemmas.{index_has}
 
 pub sources_are : (words : List WordText) → driven_outside (inputs_of words []) [] ≡ inputs_in words
@@ -101,3 +106,48 @@ drop_long k words has wide =
 -- what agrees with a net agrees with its plan
 pub agrees_of : (words : List WordText) (plan : Plan) (bits : List Bool) → IsConsistent (made_of words [] [] plan) bits → Agrees bits plan
 agrees_of words plan bits consistent g has = consistent.gates g has
+
+-- the adder over the nets of the words, whose parts are given by equations
+pub adder_over_at : (k first n : ℕ) (words : List WordText) (a b z list : List ℕ) → first ≡ outer_of words → n ≡ k → a ≡ take k list → b ≡ drop k list → list ≡ inputs_in words → z ≡ outputs_in words → adder_plan first n a b z ≡ adder_over k words
+adder_over_at k first n words a b z list first_is n_is a_is b_is list_is z_is =
+    ap₂ (λ o l. adder_plan o l a b z) first_is n_is
+    ∙ ap₂ (λ u v. adder_plan (outer_of words) k u v z) (a_is ∙ ap (λ v. take k v) list_is) (b_is ∙ ap (λ v. drop k v) list_is)
+    ∙ ap (λ v. adder_plan (outer_of words) k (take k (inputs_in words)) (drop k (inputs_in words)) v) z_is
+
+-- and the multiplier, where n is the degree k of the field
+pub mastrovito_over_at : (k g first n : ℕ) (words : List WordText) (a b z list : List ℕ) → first ≡ outer_of words → n ≡ k → a ≡ take n list → b ≡ drop n list → list ≡ inputs_in words → z ≡ outputs_in words → mastrovito_plan first k g a b z ≡ mastrovito_over k g words
+mastrovito_over_at k g first n words a b z list first_is n_is a_is b_is list_is z_is =
+    ap (λ o. mastrovito_plan o k g a b z) first_is
+    ∙ ap₂ (λ u v. mastrovito_plan (outer_of words) k g u v z) (a_is ∙ ap₂ (λ l v. take l v) n_is list_is) (b_is ∙ ap₂ (λ l v. drop l v) n_is list_is)
+    ∙ ap (λ v. mastrovito_plan (outer_of words) k g (take k (inputs_in words)) (drop k (inputs_in words)) v) z_is
+
+-- and the squarer
+pub squarer_over_at : (k g first : ℕ) (words : List WordText) (a z : List ℕ) → first ≡ outer_of words → a ≡ inputs_in words → z ≡ outputs_in words → squarer_plan first k g a z ≡ squarer_over k g words
+squarer_over_at k g first words a z first_is a_is z_is =
+    ap (λ o. squarer_plan o k g a z) first_is
+    ∙ ap₂ (λ u v. squarer_plan (outer_of words) k g u v) a_is z_is
+
+-- a chain of so few nets leaves room
+pub chain_room : (target : Option ℕ) (list : List ℕ) (most : ℕ) (old new : Plan) → length list ≤ most → new ≡ with_chain target list old → new.next ≤ old.next + (most + 1)
+chain_room target list most old new few is = omega (arith, few, ap (λ (p : Plan). p.next) is, (chain_grows target list old).1)
+
+-- one step more
+pub each_next : (step : ℕ → Plan → Plan) (i : ℕ) (start old new : Plan) → new ≡ step i old → old ≡ each i step start → new ≡ each (i + 1) step start
+each_next step i start old new is before =
+    let next : suc i ≡ i + 1 = omega arith in
+    is ∙ ap (step i) before ∙ ap (λ n. each n step start) next
+
+-- one list more
+pub lists_next : (f : ℕ → List ℕ) (i : ℕ) (list new more : List ℕ) → new ≡ list ++ more → more ≡ f i → list ≡ gathered i f → new ≡ gathered (i + 1) f
+lists_next f i list new more is here before =
+    let next : suc i ≡ i + 1 = omega arith in
+    is ∙ ap₂ (λ u v. u ++ v) before here ∙ ap (λ n. gathered n f) next
+
+-- one product more of a row
+pub row_next : (k g first i l j : ℕ) (old list new more : List ℕ) → new ≡ list ++ more → more ≡ where_so (bit_at (x_to k g (i + j)) l == 1) (first + j) → list ≡ old ++ added_row k g first i l j → new ≡ old ++ added_row k g first i l (j + 1)
+row_next k g first i l j old list new more is here before =
+    let next : suc j ≡ j + 1 = omega arith in
+    is
+    ∙ ap₂ (λ u v. u ++ v) before here
+    ∙ append_assoc old (added_row k g first i l j) (where_so (bit_at (x_to k g (i + j)) l == 1) (first + j))
+    ∙ ap (λ n. old ++ added_row k g first i l n) next

@@ -45,8 +45,27 @@ fn plan_of(alloc: Global, k: u32, signature: &Signature) -> Result<PlanMaker, Al
     let inputs = inputs(alloc, signature, k, 2)?;
     let outputs = outputs(alloc, signature, k, 2)?;
     let (a, b) = inputs.split_at(k as usize);
-    let plan = gates(alloc, outer(signature, k, 2), a, b, &outputs)?;
-    Ok(plan)
+    gates(alloc, outer(signature, k, 2), a, b, &outputs)
+}
+
+// The adder of words of k bits.
+fn adder_of(alloc: Global, k: u32, signature: &Signature) -> Result<Net, MakeFault>
+    requires small { k ≤ 64 }
+    requires wide { AreWide k signature.now.words }
+    ensures made { IfOk result (λ net. net ≡ made_adder k signature.now.words) }
+    ensures form { OnOk result (HasAdderForm signature.now) }
+    ensures unfit { IsErrOf result MakeFault.Unfit → HasAdderForm signature.now → ⊥ }
+{
+    if !all_alike(signature.words()) {
+        return Err(MakeFault::Unfit);
+    }
+    let maker = match ports(alloc, signature, k, 2) {
+        Ok(maker) => maker,
+        Err(fault) => return Err(fault),
+    };
+    let plan = plan_of(alloc, k, signature)?;
+    let net = net_of(alloc, maker, signature, 2, &plan)?;
+    Ok(net)
 }
 
 /// A netlist of the sum A + B: an exclusive or gate for each bit. Words are two inputs and the output, all in one basis by
@@ -62,15 +81,5 @@ pub fn adder<F: Field>(alloc: Global, field: &F, signature: &Signature) -> Resul
     ensures form { OnOk result (HasAdderForm signature.now) }
     ensures unfit { IsErrOf result MakeFault.Unfit → HasAdderForm signature.now → ⊥ }
 {
-    if !all_alike(signature.words()) {
-        return Err(MakeFault::Unfit);
-    }
-    let k = field.k();
-    let maker = match ports(alloc, signature, k, 2) {
-        Ok(maker) => maker,
-        Err(fault) => return Err(fault),
-    };
-    let plan = plan_of(alloc, k, signature)?;
-    let net = net_of(alloc, maker, signature, 2, &plan)?;
-    Ok(net)
+    adder_of(alloc, field.k(), signature)
 }

@@ -73,8 +73,5 @@ pub fn poly_ports(
     if !signature.tower().is_empty() || !all_poly(signature.words()) {
         return Err(MakeFault::Unfit);
     }
-    match ports(alloc, signature, k, count) {
-        Ok(maker) => Ok(maker),
-        Err(fault) => Err(fault),
-    }
+    ports(alloc, signature, k, count)
 }

@@ -48,8 +48,7 @@ fn add_chain(
     ensures next { OnOk result (plan.new.next ≤ plan.old.next + 4097) }
 {
     let list = added_products(alloc, ring, powers, k, first, l)?;
-    plan.chain_into(out, &list)?;
-    Ok(())
+    plan.chain_into(out, &list)
 }
 
 // The gates of the multiplier of the words on these nets.
@@ -92,8 +91,7 @@ fn plan_of(
     let inputs = inputs(alloc, signature, k, 2)?;
     let outputs = outputs(alloc, signature, k, 2)?;
     let (a, b) = inputs.split_at(k as usize);
-    let plan = gates(alloc, ring, outer(signature, k, 2), a, b, &outputs)?;
-    Ok(plan)
+    gates(alloc, ring, outer(signature, k, 2), a, b, &outputs)
 }
 
 /// A netlist of the product A * B: the products of each bit of A and each of B, and for each bit of the product a chain of

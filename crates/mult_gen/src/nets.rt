@@ -39,8 +39,7 @@ pub fn inputs(
     ensures nets { IfOk result (λ list. list.items ≡ inputs_in signature.now.words) }
     ensures long { IfOk result (λ list. length list.items ≡ _count * _k) }
 {
-    let list = role_nets(alloc, signature.words(), Role::Input)?;
-    Ok(list)
+    role_nets(alloc, signature.words(), Role::Input)
 }
 
 /// The nets of the output word.
@@ -57,8 +56,7 @@ pub fn outputs(
     ensures nets { IfOk result (λ list. list.items ≡ outputs_in signature.now.words) }
     ensures long { IfOk result (λ list. length list.items ≡ _k) }
 {
-    let list = role_nets(alloc, signature.words(), Role::Output)?;
-    Ok(list)
+    role_nets(alloc, signature.words(), Role::Output)
 }
 
 /// The net of the gates of a plan, without latches.
@@ -75,13 +73,12 @@ pub fn net_of(
     ensures { IfOk result (λ net. net ≡ made_of signature.now.words [] [] plan.now) }
 {
     let latches: Vec<Latch> = Vec::new(alloc);
-    let net = make(
+    make(
         alloc,
         maker,
         signature.words(),
         signature.feeds(),
         &latches,
         plan,
-    )?;
-    Ok(net)
+    )
 }

@@ -45,8 +45,7 @@ fn add_chain(
     ensures next { OnOk result (plan.new.next ≤ plan.old.next + 65) }
 {
     let list = added_bits(alloc, ring, powers, a, l)?;
-    plan.chain_into(out, &list)?;
-    Ok(())
+    plan.chain_into(out, &list)
 }
 
 // The gates of the squarer of the words on these nets.
@@ -85,8 +84,7 @@ fn plan_of(
     let k = ring.k();
     let inputs = inputs(alloc, signature, k, 1)?;
     let outputs = outputs(alloc, signature, k, 1)?;
-    let plan = gates(alloc, ring, outer(signature, k, 1), &inputs, &outputs)?;
-    Ok(plan)
+    gates(alloc, ring, outer(signature, k, 1), &inputs, &outputs)
 }
 
 /// A netlist of the square of A: for each bit of the square a chain of the bits of A that reach it. Words are one input and
