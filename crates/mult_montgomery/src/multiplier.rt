@@ -61,15 +61,14 @@ fn plan_of(
     let outputs = outputs(alloc, signature, k, 2)?;
     let (a, b) = inputs.as_slice().split_at(k as usize);
     let first = outer(signature, k, 2);
-    let plan = gates(
+    gates(
         alloc,
         ring.ring().modulus(),
         first,
         a,
         b,
         outputs.as_slice(),
-    )?;
-    Ok(plan)
+    )
 }
 
 // The net over the nets of the words.
@@ -112,6 +111,7 @@ pub fn montgomery(
     ensures computes { IfOk result (λ net. MultipliesWithInverse (degree_of (ring_of ring.now)) (modulus_of (ring_of ring.now)) net signature.now.words) }
     ensures form { OnOk result (HasMontgomeryForm signature.now) }
     ensures unfit { IsErrOf result MakeFault.Unfit → HasMontgomeryForm signature.now → ⊥ }
+    ensures refused { signature.now.modulus ≡ 2 → IsErrOf result MakeFault.Unfit }
 {
     if signature.modulus() == 2 {
         return Err(MakeFault::Unfit);

@@ -78,8 +78,7 @@ fn summed_row(
     if i == 0 {
         return Ok(products);
     }
-    let sums = xor_row(alloc, plan, before, products.as_slice())?;
-    Ok(sums)
+    xor_row(alloc, plan, before, products.as_slice())
 }
 
 // A round: a coefficient of the first factor, with the division that follows.
@@ -103,8 +102,7 @@ fn round(
     ensures next { OnOk result (plan.new.next ≤ plan.old.next + 3 * length b.now) }
 {
     let sum = summed_row(alloc, plan, i, a, b, before)?;
-    let nets = divided_row(alloc, plan, modulus, sum.as_slice())?;
-    Ok(nets)
+    divided_row(alloc, plan, modulus, sum.as_slice())
 }
 
 // All rounds.
