@@ -1,5 +1,5 @@
 -- The gates of products and of their sum are well made.
-use Rattle.std.proofs.Common.{◌≡◌, ◌⊎◌, subst, inl, inr, ℕ, zero, suc, ◌<◌, ◌≤◌, ◌+◌, ◌*◌, mul-suc, ◌^◌, Bool, true, false, List, [], ◌∷◌, length, None, arith}
+use Rattle.std.proofs.Common.{◌≡◌, ◌⊎◌, ◌∙◌, ap, subst, inl, inr, ℕ, zero, suc, ◌<◌, ◌≤◌, ◌+◌, ◌*◌, mul-suc, ◌^◌, Bool, true, false, List, [], ◌∷◌, length, None, arith}
 use Rattle.std.proofs.lemmas.List.{length_push}
 use Rattle.lists.specs.Lists.{Has}
 use Rattle.lists.specs.laws.HasLaws.{Has_cases, none_at}
@@ -21,6 +21,17 @@ pub record AreFew (n m : ℕ) (products : Products) : Type 0 where
 -- there is room for a chain of so few
 pub room_for_sum : (n m : ℕ) (s : Products) → n ≤ 1024 → m ≤ 4096 → AreFew n m s → s.plan.next + (length s.nets + 1) < 2 ^ 32
 room_for_sum n m s low small few = omega (arith, few.nets, few.next)
+
+-- one step more
+pub products_more : (step : ℕ → Products → Products) (i : ℕ) (start old new : Products) → old ≡ each i step start → new ≡ step i old → new ≡ each (i + 1) step start
+products_more step i start old new before is =
+    let next : suc i ≡ i + 1 = omega arith in
+    is ∙ ap (step i) before ∙ ap (λ n. each n step start) next
+
+-- a product is one gate at most
+pub product_grows : (counts : Bool) (a b : ℕ) (old new : Products) → new ≡ with_product counts a b old → new.plan.next ≤ old.plan.next + 1
+product_grows false a b old new is = omega (arith, ap (λ (s : Products). s.plan.next) is)
+product_grows true a b old new is = omega (arith, ap (λ (s : Products). s.plan.next) is)
 
 few_more : (n m : ℕ) (counts : Bool) (a b : ℕ) (s : Products) → AreFew n m s → AreFew n (suc m) (with_product counts a b s)
 few_more n m false a b s few = record { nets = omega (arith, few.nets); next = omega (arith, few.next) }

@@ -79,6 +79,9 @@ module _ (k : ℕ) (words : List WordText) (has : HasWords State 2 words) (wide 
   pub half_low : (n : ℕ) (list items : List ℕ) → n ≡ k → list ≡ items → items ≡ role_nets State 0 words → n ≤ length list
   half_low n list items same is are = omega (arith, same, ap (λ xs. length xs) is, ap (λ xs. length xs) are, states_long)
 
+  pub names_few : k ≤ 64 → length (word_names words) ≤ 192
+  names_few small = omega (arith, all_long, small)
+
   pub count_low : (count : ℕ) → k ≤ 64 → count ≡ length (word_names words) → count ≤ 1024
   count_low count small is = omega (arith, is, all_long, small)
 

@@ -48,8 +48,7 @@ fn assembled<F: Field>(
 {
     let (plan, last) = last_sum(alloc, field, basis, count_of(words), a, b)?;
     let list = latches(alloc, last, a, b, z)?;
-    let net = make(alloc, maker, words, &[], &list, &plan)?;
-    Ok(net)
+    make(alloc, maker, words, &[], &list, &plan)
 }
 
 // The net over these words, whose nets were made.

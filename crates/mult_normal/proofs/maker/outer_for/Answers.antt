@@ -1,6 +1,12 @@
+use Rattle.std.proofs.Common.{◌≡◌, true}
 use Rattle.mult_gen.proofs.FormLemmas.{states_wide}
 use Rattle.mult_normal.proofs.WordLemmas.{outer_few}
 use Rattle.mult_normal.proofs.maker.outer_for.Goals as goal
+
+pub returns-then-not-has_form-clause-unfit : goal.returns-then-not-has_form-clause-unfit
+returns-then-not-has_form-clause-unfit c = λ unfit form.
+    let fits : c.has_form.result ≡ true = c.has_form.ensures.1 (form.unfed, form.unblocked, form.words, (form.gamma, form.bases)) in
+    absurd (cc)
 
 pub outer_nets-requires : goal.outer_nets-requires
 outer_nets-requires c =
