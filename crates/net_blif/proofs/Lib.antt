@@ -8,6 +8,7 @@ pub mod TokenLemmas
 pub mod PlaceLemmas
 pub mod StatementLemmas
 pub mod ReadLemmas
+pub mod PlacingLemmas
 pub mod RowPlaceLemmas
 pub mod NamesLemmas
 pub mod TableLemmas

@@ -6,3 +6,5 @@ pub mod ReadOn
 pub mod Bare
 pub mod Once
 pub mod Bodies
+pub mod Placing
+pub mod Naming

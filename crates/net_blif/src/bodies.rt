@@ -27,8 +27,7 @@ pub fn kept_bodies(alloc: Global, models: &ModelList) -> Result<Vec<ItemList>, A
     if !ports_repeat(alloc, models)? {
         return Ok(Vec::new(alloc));
     }
-    let all = all_bodies(alloc, models)?;
-    Ok(all)
+    all_bodies(alloc, models)
 }
 
 /// The body of a model, or what its lines place where none is kept.

@@ -113,7 +113,9 @@ fn further(alloc: Global, graph: &Graph, on: &[bool]) -> Result<Vec<bool>, Alloc
     let points = graph.points();
     for point in 0..points {
         let mark = leads_into(on, graph.edges(point as u32));
-        more.push(mark)?;
+        let Ok(()) = more.push(mark) else {
+            return Err(AllocError);
+        };
     }
     Ok(more)
 }
@@ -125,7 +127,9 @@ fn all_points(alloc: Global, graph: &Graph) -> Result<Vec<bool>, AllocError>
     let mut on = Vec::new(alloc);
     let points = graph.points();
     for _ in 0..points {
-        on.push(true)?;
+        let Ok(()) = on.push(true) else {
+            return Err(AllocError);
+        };
     }
     Ok(on)
 }
@@ -148,7 +152,9 @@ pub fn check_depth(alloc: Global, models: &ModelList, graph: &Graph) -> Result<(
     ensures within { OnOk result (AreWithinDepth models.now (Ok tt)) }
     ensures fault { IfErr result (λ e. (e ≡ BlifFault.OutOfMemory) ⊎ AreWithinDepth models.now (Err e)) }
 {
-    let on = leading(alloc, graph, MAX_CHAIN)?;
+    let Ok(on) = leading(alloc, graph, MAX_CHAIN) else {
+        return Err(BlifFault::OutOfMemory);
+    };
     if on[0] {
         return Err(BlifFault::TooDeep);
     }

@@ -3,6 +3,8 @@ ghost use Rattle.std.specs.Prelude.{◌≡◌};
 ghost use Rattle.text_core.specs.Lines.{IsPrinting};
 ghost use Rattle.net_blif.specs.Connection.{actual_of, formal_of, is_connection as connection_is};
 
+use crate::token::Token;
+
 /// What stands before the first `=` of a token and what stands behind it.
 pub fn sides(token: &[u8]) -> (&[u8], &[u8])
     ensures formal { result.0.now ≡ formal_of token.now }
@@ -18,9 +20,9 @@ pub fn sides(token: &[u8]) -> (&[u8], &[u8])
 }
 
 /// Whether a token has a `=` with something on both sides.
-pub fn is_connection(token: &[u8]) -> bool
+pub fn is_connection(token: &Token<'_>) -> bool
     ensures { result ≡ connection_is token.now }
 {
-    let (formal, actual) = sides(token);
+    let (formal, actual) = sides(token.bytes());
     !formal.is_empty() && !actual.is_empty()
 }

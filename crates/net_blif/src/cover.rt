@@ -86,7 +86,9 @@ impl<'a> Cover<'a> {
         ensures row { IfSome result (λ r. RowStandsAlone text.now r.pattern.now r.output r.after.now) }
         ensures takes { IfSome result (λ r. IsTrue (takes_row r.pattern.now r.output self.now)) }
     {
-        let row = row_in_place(text, self.inputs.len())?;
+        let Some(row) = row_in_place(text, self.inputs.len()) else {
+            return None;
+        };
         if !self.takes(row.pattern, row.output) {
             return None;
         }
@@ -98,7 +100,9 @@ impl<'a> Cover<'a> {
         ensures made { OnOk result (self.new ≡ with_row pattern.now output self.old) }
         ensures unchanged { OnErr result (self.new ≡ self.old) }
     {
-        self.rows.push(Token::new(pattern))?;
+        let Ok(()) = self.rows.push(Token::new(pattern)) else {
+            return Err(AllocError);
+        };
         self.output = Some(output);
         Ok(())
     }
@@ -119,7 +123,9 @@ fn copy_tokens<'a>(tokens: &[Token<'a>], list: &mut Vec<Token<'a>>) -> Result<()
 {
     list.clear();
     for token in tokens {
-        list.push(Token::new(token.bytes()))?;
+        let Ok(()) = list.push(Token::new(token.bytes())) else {
+            return Err(AllocError);
+        };
     }
     Ok(())
 }

@@ -64,10 +64,11 @@ fn check(alloc: Global, models: &ModelList) -> Result<(), BlifFault>
         return Ok(());
     }
     check_instances(alloc, models)?;
-    let graph = graph(alloc, models)?;
+    let Ok(graph) = graph(alloc, models) else {
+        return Err(BlifFault::OutOfMemory);
+    };
     check_walk(alloc, models, &graph)?;
-    check_depth(alloc, models, &graph)?;
-    Ok(())
+    check_depth(alloc, models, &graph)
 }
 
 impl Design {
@@ -84,7 +85,9 @@ impl Design {
         let Ok(_) = u32::try_from(models.items(0).len()) else {
             return Err(BlifFault::OutOfMemory);
         };
-        let bodies = kept_bodies(alloc, &models)?;
+        let Ok(bodies) = kept_bodies(alloc, &models) else {
+            return Err(BlifFault::OutOfMemory);
+        };
         Ok(Design { models, bodies })
     }
 

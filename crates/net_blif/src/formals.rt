@@ -42,30 +42,17 @@ impl Formals {
         Ok(formals)
     }
 
-    /// The table of them.
-    pub fn names(&self) -> &Table
-        ensures { numbers_in result.now ≡ (formals_in self.now).names }
-    {
-        &self.names
-    }
-
-    /// Whether the table has a number for each input.
-    pub fn are_in(&self, table: &Table) -> bool
-        ensures { result ≡ has_all (numbers_in table.now) (formals_in self.now).inputs }
-    {
-        are_in(table, &self.inputs.all())
-    }
-
     // One more input, unless it is one.
     fn add_input(&mut self, name: &[u8]) -> Result<(), AllocError>
         requires { IsToken name.now }
         ensures { OnOk result (formals_in self.new ≡ with_input (formals_in self.old) name.now) }
     {
         let text = text_of(name);
-        if self.names.get(text).is_none() {
-            self.names.insert(text, 0)?;
-            self.inputs.push(name)?;
+        if self.names.get(text).is_some() {
+            return Ok(());
         }
+        self.names.insert(text, 0)?;
+        self.inputs.push(name)?;
         Ok(())
     }
 
@@ -141,8 +128,8 @@ impl Formals {
     }
 }
 
-// Whether the table has a number for each of the names.
-fn are_in(table: &Table, names: &TokenSlice<'_>) -> bool
+/// Whether the table has a number for each of the names.
+pub fn are_in(table: &Table, names: &TokenSlice<'_>) -> bool
     requires { All IsToken names.now }
     ensures { result ≡ has_all (numbers_in table.now) names.now }
 {

@@ -105,7 +105,9 @@ fn push_word<'a>(words: &mut Vec<Token<'a>>, word: &'a [u8]) -> Result<(), Alloc
     ensures { OnOk result (words.new.items ≡ words.old.items ++ as_word word.now) }
 {
     if !word.is_empty() {
-        words.push(Token::new(word))?;
+        let Ok(()) = words.push(Token::new(word)) else {
+            return Err(AllocError);
+        };
     }
     Ok(())
 }

@@ -10,7 +10,7 @@ ghost use Rattle.net_blif.specs.private.Connecting.{after, collected, connect, f
 use crate::BlifFault;
 use crate::connection::sides;
 use crate::formal_set::Formals;
-use crate::formals::text_of;
+use crate::formals::{are_in, text_of};
 use crate::item::Item;
 use crate::item_list::ItemList;
 use crate::model_list::ModelList;
@@ -72,8 +72,8 @@ fn check_formals(
     ensures fault { IfErr result (IsFault (fault_by line (formals_in formals.now) connections.now)) }
 {
     let mut connected = Table::new(alloc, key);
-    check_connections(line, formals.names(), &mut connected, connections)?;
-    if !formals.are_in(&connected) {
+    check_connections(line, &formals.names, &mut connected, connections)?;
+    if !are_in(&connected, &formals.inputs.all()) {
         return Err(BlifFault::FormalMissing { line });
     }
     Ok(())
@@ -172,7 +172,9 @@ pub fn check_instances(alloc: Global, models: &ModelList) -> Result<(), BlifFaul
     ensures right { OnOk result (instances_fault models.now ≡ None) }
     ensures fault { IfErr result (IsFault (instances_fault models.now)) }
 {
-    let formals = all_formals(alloc, models)?;
+    let Ok(formals) = all_formals(alloc, models) else {
+        return Err(BlifFault::OutOfMemory);
+    };
     for model in 0..models.models() {
         check_items(alloc, models, &formals, models.items(model))?;
     }

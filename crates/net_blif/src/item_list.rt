@@ -1,8 +1,9 @@
 //! What the lines of a model place, with their tokens in one text.
-ghost use Rattle.std.specs.Prelude.{◌≡◌, ◌≤◌, ◌<◌, ◌+◌, ◌^◌, [], ◌∷◌, ◌++◌, Some, length, slice_get, slice_index_or, slice_range, All, IsTrue, IfOk, OnOk};
+ghost use Rattle.std.specs.Prelude.{◌≡◌, ◌≤◌, ◌<◌, ◌+◌, ◌^◌, ℕ, List, [], ◌∷◌, ◌++◌, Some, length, slice_get, slice_index_or, slice_range, All, IsTrue, IfOk, OnOk};
 ghost use Rattle.std.specs.List.{list_all, list_any};
 ghost use Rattle.net_blif.specs.Connection.{is_connection};
 ghost use Rattle.net_blif.specs.Item.{IsSoundItem};
+ghost use Rattle.net_blif.specs.Places.{item_at, IsPlace};
 ghost use Rattle.net_blif.specs.Statement.{IsToken};
 ghost use Rattle.net_blif.specs.Top.{is_instance};
 ghost use Rattle.net_blif.specs.private.Bare.{is_instance_place};
@@ -104,27 +105,7 @@ impl ItemList {
         ensures item { Some result ≡ slice_get self.now place }
         ensures sound { IsSoundItem result }
     {
-        match place_at(&self.places, place) {
-            Place::Inputs { first, end } => Item::Inputs(
-                self.tokens.range(first as usize, end as usize),
-            ),
-            Place::Outputs { first, end } => Item::Outputs(
-                self.tokens.range(first as usize, end as usize),
-            ),
-            Place::Gate {
-                line,
-                first,
-                end,
-                table,
-            } => Item::Gate {
-                line,
-                inputs: self.tokens.range(first as usize, end as usize),
-                out: Token::new(self.tokens.get(end as usize)),
-                table,
-            },
-            Place::Latch { line, first, start } => latch_at(&self.tokens, line, first, start),
-            Place::Instance { line, first, end } => instance_at(&self.tokens, line, first, end),
-        }
+        item_of(&self.tokens, place_at(&self.places, place))
     }
 
     /// Primary inputs at the end.
@@ -132,9 +113,7 @@ impl ItemList {
         requires { All IsToken nets.now }
         ensures { OnOk result (self.new ≡ self.old ++ Item.Inputs nets.now ∷ []) }
     {
-        let first = number(self.tokens.len())?;
-        self.tokens.push_all(nets)?;
-        let end = number(self.tokens.len())?;
+        let (first, end) = append_nets(&mut self.tokens, nets)?;
         self.places.push(Place::Inputs { first, end })?;
         Ok(())
     }
@@ -144,9 +123,7 @@ impl ItemList {
         requires { All IsToken nets.now }
         ensures { OnOk result (self.new ≡ self.old ++ Item.Outputs nets.now ∷ []) }
     {
-        let first = number(self.tokens.len())?;
-        self.tokens.push_all(nets)?;
-        let end = number(self.tokens.len())?;
+        let (first, end) = append_nets(&mut self.tokens, nets)?;
         self.places.push(Place::Outputs { first, end })?;
         Ok(())
     }
@@ -166,9 +143,7 @@ impl ItemList {
         requires table { table < 2 ^ (2 ^ length inputs.now) }
         ensures { OnOk result (self.new ≡ self.old ++ Item.Gate line inputs.now out.now table ∷ []) }
     {
-        let first = number(self.tokens.len())?;
-        self.tokens.push_all(inputs)?;
-        let end = number(self.tokens.len())?;
+        let (first, end) = append_nets(&mut self.tokens, inputs)?;
         self.tokens.push(out)?;
         push_one(
             &mut self.places,
@@ -213,9 +188,7 @@ impl ItemList {
         requires connections { IsTrue (list_all is_connection connections.now) }
         ensures { OnOk result (self.new ≡ self.old ++ Item.Instance line model.now connections.now ∷ []) }
     {
-        let first = number(self.tokens.len())?;
-        self.tokens.push_all(connections)?;
-        let end = number(self.tokens.len())?;
+        let (first, end) = append_nets(&mut self.tokens, connections)?;
         self.tokens.push(model)?;
         self.places.push(Place::Instance { line, first, end })?;
         Ok(())
@@ -233,7 +206,7 @@ fn of_instance(place: &Place) -> bool
 fn any_instance(places: &[Place]) -> bool
     ensures { result ≡ list_any is_instance_place places.now }
 {
-    places.iter().any(|place| of_instance(place))
+    places.iter().any(of_instance)
 }
 
 // The place of an item.
@@ -242,6 +215,30 @@ fn place_at(places: &[Place], place: usize) -> Place
     ensures { Some result ≡ slice_get places.now place }
 {
     places[place]
+}
+
+// The item of a place.
+fn item_of(tokens: &TokenList, place: Place) -> Item<'_>
+    requires { IsPlace (length tokens.now) place }
+    ensures { result ≡ item_at tokens.now place }
+{
+    match place {
+        Place::Inputs { first, end } => Item::Inputs(tokens.range(first as usize, end as usize)),
+        Place::Outputs { first, end } => Item::Outputs(tokens.range(first as usize, end as usize)),
+        Place::Gate {
+            line,
+            first,
+            end,
+            table,
+        } => Item::Gate {
+            line,
+            inputs: tokens.range(first as usize, end as usize),
+            out: Token::new(tokens.get(end as usize)),
+            table,
+        },
+        Place::Latch { line, first, start } => latch_at(tokens, line, first, start),
+        Place::Instance { line, first, end } => instance_at(tokens, line, first, end),
+    }
 }
 
 // The latch whose nets stand at `first` and behind it.
@@ -268,6 +265,18 @@ fn instance_at(tokens: &TokenList, line: u32, first: u32, end: u32) -> Item<'_>
         model: Token::new(tokens.get(end as usize)),
         connections: tokens.range(first as usize, end as usize),
     }
+}
+
+// Puts the tokens of a line at the end, and gives where they begin and end. Always inlined, as `push_gate` is.
+#[inline(always)]
+fn append_nets(tokens: &mut TokenList, nets: &[Token<'_>]) -> Result<(u32, u32), AllocError>
+    ensures made { IfOk result (λ r. (tokens.new ≡ tokens.old ++ nets.now) × (r.0 ≡ length tokens.old) × (r.1 ≡ length tokens.new)) }
+    ensures grows { (more : List (List ℕ)) × (tokens.new ≡ tokens.old ++ more) }
+{
+    let first = number(tokens.len())?;
+    tokens.push_all(nets)?;
+    let end = number(tokens.len())?;
+    Ok((first, end))
 }
 
 // A count of tokens in memory, which is below 2^32.

@@ -1,8 +1,9 @@
 //! The models of a text.
-ghost use Rattle.std.specs.Prelude.{◌≡◌, ℕ, List, is_some, if◌then◌else◌, ◌<◌, ◌++◌, ◌∷◌, [], Some, length, slice_get, IfOk};
+ghost use Rattle.std.specs.Prelude.{◌≡◌, ℕ, List, is_some, if◌then◌else◌, ◌<◌, ◌++◌, ◌∷◌, [], Some, length, slice_get, IfOk, OnErr, OnOk};
 ghost use Rattle.std.specs.Str.{bytes_eq};
 ghost use Rattle.indexmap.specs.IndexMap.{get_by_text};
 ghost use Rattle.net_blif.specs.Design.{ModelValue, items_of, model_from, model_named};
+ghost use Rattle.net_blif.specs.private.Naming.{HasNumber};
 
 use crate::item_list::ItemList;
 use indexmap::IndexMap;
@@ -60,11 +61,23 @@ impl ModelText {
 }
 
 /// The models of a text in BLIF, in order. Contracts see the list of models; model 0 is the top.
-#[derive(Drop)]
 pub struct ModelList {
     key: u64,
     models: Vec<ModelText>,
     numbers: Numbers,
+}
+
+// By hand, so that a caller that lets one go makes one call, and not one for each part.
+impl Drop for ModelList {
+    fn drop(self) {
+        let ModelList {
+            key: _,
+            models,
+            numbers,
+        } = self;
+        drop(models);
+        drop(numbers);
+    }
 }
 
 impl Model for ModelList {
@@ -92,26 +105,17 @@ impl ModelList {
         }
     }
 
-    /// With one more model.
-    pub fn with(self, alloc: Global, model: ModelText) -> Result<ModelList, AllocError>
-        ensures { IfOk result (λ models. models ≡ self ++ model ∷ []) }
+    /// One more model. An error leaves some models.
+    pub fn add(&mut self, alloc: Global, model: ModelText) -> Result<(), AllocError>
+        ensures { OnOk result (self.new ≡ self.old ++ model ∷ []) }
     {
-        let ModelList {
-            key,
-            models,
-            numbers,
-        } = self;
-        let mut models = models;
-        let Ok(number) = u32::try_from(models.len() + 1) else {
+        let Ok(number) = u32::try_from(self.models.len() + 1) else {
             return Err(AllocError);
         };
-        let numbers = with_number(alloc, numbers, model.name(), number - 1)?;
-        models.push(model)?;
-        Ok(ModelList {
-            key,
-            models,
-            numbers,
-        })
+        self.models.reserve(1)?;
+        add_number(alloc, &mut self.numbers, model.name(), number - 1)?;
+        self.models.push_reserved(model);
+        Ok(())
     }
 
     /// How many models there are.
@@ -161,11 +165,25 @@ pub fn with_number(
         ≡ (if is_some (get_by_text numbers name.now) then get_by_text numbers q
         else (if bytes_eq name.now q then Some number else get_by_text numbers q))) }
 {
-    if numbers.get(name).is_some() {
-        return Ok(numbers);
-    }
     let mut after = numbers;
-    let key = String::from_str(alloc, name)?;
-    after.insert(key, number)?;
+    add_number(alloc, &mut after, name, number)?;
     Ok(after)
+}
+
+// Gives a name this number, unless it has one. On an error each name has the number that it had.
+fn add_number(
+    alloc: Global,
+    numbers: &mut Numbers,
+    name: &str,
+    number: u32,
+) -> Result<(), AllocError>
+    ensures made { OnOk result (HasNumber (get_by_text numbers.old) name.now number (get_by_text numbers.new)) }
+    ensures unchanged { OnErr result ((q : List ℕ) → get_by_text numbers.new q ≡ get_by_text numbers.old q) }
+{
+    if numbers.get(name).is_some() {
+        return Ok(());
+    }
+    let key = String::from_str(alloc, name)?;
+    numbers.insert(key, number)?;
+    Ok(())
 }

@@ -30,7 +30,9 @@ fn copied<'a>(alloc: Global, tokens: &TokenSlice<'a>) -> Result<Vec<Token<'a>>, 
 {
     let mut list = Vec::new(alloc);
     for place in 0..tokens.len() {
-        list.push(Token::new(tokens.get(place)))?;
+        let Ok(()) = list.push(Token::new(tokens.get(place))) else {
+            return Err(AllocError);
+        };
     }
     Ok(list)
 }
@@ -92,8 +94,7 @@ impl Once {
         ensures { OnOk result (once_in self.new ≡ with_line (once_in self.old) (Item.Gate line inputs.now out.now table)) }
     {
         let nets = copied(alloc, inputs)?;
-        self.lines.push_gate(line, &nets, out, table)?;
-        Ok(())
+        self.lines.push_gate(line, &nets, out, table)
     }
 
     fn add_latch(
@@ -124,8 +125,7 @@ impl Once {
         ensures { OnOk result (once_in self.new ≡ with_line (once_in self.old) (Item.Instance line model.now connections.now)) }
     {
         let tokens = copied(alloc, connections)?;
-        self.lines.push_instance(line, model, &tokens)?;
-        Ok(())
+        self.lines.push_instance(line, model, &tokens)
     }
 
     // One more line.

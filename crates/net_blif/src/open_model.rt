@@ -1,30 +1,44 @@
 //! A model whose lines are being read.
-ghost use Rattle.std.specs.Prelude.{◌≡◌, ◌≤◌, ◌∷◌, [], None, Some, false, length, All, IsTrue, IfOk, IfSome, OnOk};
-ghost use Rattle.std.specs.List.{list_all};
+ghost use Rattle.std.specs.Prelude.{◌≡◌, ◌≤◌, ◌++◌, [], None, Some, false, length, All, IsTrue, IfOk, IfSome, OnOk};
 ghost use Rattle.std.specs.Option.{option_map_or};
-ghost use Rattle.net_blif.specs.Connection.{is_connection};
+ghost use Rattle.net_blif.specs.Item.{HasPrintingNames};
 ghost use Rattle.net_blif.specs.Statement.{IsToken};
 ghost use Rattle.net_blif.specs.private.FirstLine.{RowStandsAlone};
+ghost use Rattle.net_blif.specs.private.Placing.{items_said};
 ghost use Rattle.net_blif.specs.Cover.{begun, takes_row};
-ghost use Rattle.net_blif.specs.declared.item.Item.{Item};
 ghost use Rattle.net_blif.specs.Models.{placed, with_cover_row, with_items};
 
 use crate::cover::Cover;
 use crate::item_list::ItemList;
 use crate::model_list::ModelText;
 use crate::rows::PlacedRow;
+use crate::statement::{Statement, start_of};
 use crate::token::Token;
-use net_core::{Name, Start};
+use net_core::Name;
 use std::alloc::{AllocError, Global};
 use std::marker::Model;
 
 /// A model whose lines are being read, and the cover just begun, where one is open.
-#[derive(Drop)]
 pub struct OpenModel<'a> {
     name: Name,
     items: ItemList,
     cover: Cover<'a>,
     is_open: bool,
+}
+
+// By hand, so that a caller that lets one go makes one call, and not one for each part.
+impl<'a> Drop for OpenModel<'a> {
+    fn drop(self) {
+        let OpenModel {
+            name,
+            items,
+            cover,
+            is_open: _,
+        } = self;
+        drop(name);
+        drop(items);
+        drop(cover);
+    }
 }
 
 impl<'a> Model for OpenModel<'a> {
@@ -99,57 +113,13 @@ impl<'a> OpenModel<'a> {
         Ok(())
     }
 
-    /// Places primary inputs.
-    pub fn place_inputs(&mut self, nets: &[Token<'_>]) -> Result<(), AllocError>
-        requires { All IsToken nets.now }
-        ensures { OnOk result (self.new ≡ with_items (Item.Inputs nets.now ∷ []) None self.old) }
+    /// Ends the cover just begun, if one is open, and places what a statement says.
+    pub fn place(&mut self, line: u32, statement: &Statement<'_, '_>) -> Result<(), AllocError>
+        requires { HasPrintingNames statement.now }
+        ensures { OnOk result (self.new ≡ with_items (items_said line statement.now) None self.old) }
     {
         self.close()?;
-        self.items.push_inputs(nets)?;
-        Ok(())
-    }
-
-    /// Places outputs.
-    pub fn place_outputs(&mut self, nets: &[Token<'_>]) -> Result<(), AllocError>
-        requires { All IsToken nets.now }
-        ensures { OnOk result (self.new ≡ with_items (Item.Outputs nets.now ∷ []) None self.old) }
-    {
-        self.close()?;
-        self.items.push_outputs(nets)?;
-        Ok(())
-    }
-
-    /// Places a latch.
-    pub fn place_latch(
-        &mut self,
-        line: u32,
-        next: &[u8],
-        out: &[u8],
-        start: Start,
-    ) -> Result<(), AllocError>
-        requires next { IsToken next.now }
-        requires out { IsToken out.now }
-        ensures { OnOk result (self.new ≡ with_items (Item.Latch line next.now out.now start ∷ []) None self.old) }
-    {
-        self.close()?;
-        self.items.push_latch(line, next, out, start)?;
-        Ok(())
-    }
-
-    /// Places an instance.
-    pub fn place_instance(
-        &mut self,
-        line: u32,
-        model: &[u8],
-        connections: &[Token<'_>],
-    ) -> Result<(), AllocError>
-        requires model { IsToken model.now }
-        requires tokens { All IsToken connections.now }
-        requires connections { IsTrue (list_all is_connection connections.now) }
-        ensures { OnOk result (self.new ≡ with_items (Item.Instance line model.now connections.now ∷ []) None self.old) }
-    {
-        self.close()?;
-        self.items.push_instance(line, model, connections)?;
+        place_items(&mut self.items, line, statement)?;
         Ok(())
     }
 
@@ -164,11 +134,39 @@ impl<'a> OpenModel<'a> {
     }
 
     /// The model, of which this was the last line.
-    pub fn finish(self) -> Result<ModelText, AllocError>
+    pub fn finish(mut self) -> Result<ModelText, AllocError>
         ensures { IfOk result (λ model. model ≡ record { name = self.entry.name; items = placed self.entry }) }
     {
-        let mut model = self;
-        model.close()?;
-        Ok(ModelText::new(model.name, model.items))
+        self.close()?;
+        let OpenModel {
+            name,
+            items,
+            cover,
+            is_open: _,
+        } = self;
+        drop(cover);
+        Ok(ModelText::new(name, items))
+    }
+}
+
+// Places what a statement says behind these items.
+fn place_items(
+    items: &mut ItemList,
+    line: u32,
+    statement: &Statement<'_, '_>,
+) -> Result<(), AllocError>
+    requires { HasPrintingNames statement.now }
+    ensures { OnOk result (items.new ≡ items.old ++ items_said line statement.now) }
+{
+    match statement {
+        Statement::Inputs(nets) => items.push_inputs(nets.as_slice()),
+        Statement::Outputs(nets) => items.push_outputs(nets.as_slice()),
+        Statement::Latch { next, out, rest } => {
+            items.push_latch(line, next.bytes(), out.bytes(), start_of(rest.as_slice()))
+        }
+        Statement::Instance { model, connections } => {
+            items.push_instance(line, model.bytes(), connections.as_slice())
+        }
+        _ => Ok(()),
     }
 }

@@ -1,8 +1,7 @@
 //! The reader of BLIF.
-ghost use Rattle.std.specs.Prelude.{◌≡◌, ◌⊎◌, ◌<◌, ◌≤◌, ◌+◌, ◌==◌, ◌&&◌, Ok, Err, IfOk, IfErr, length, take_while, nat_le};
+ghost use Rattle.std.specs.Prelude.{◌≡◌, ◌⊎◌, ◌<◌, ◌≤◌, ◌+◌, ◌&&◌, Ok, Err, IfOk, IfErr, OnOk, length, take_while, nat_le};
 ghost use Rattle.std.specs.Str.Lines.{lines};
 ghost use Rattle.net_blif.specs.Lines.{joined, lines_of};
-ghost use Rattle.net_blif.specs.Statement.{is_dotted as dotted};
 ghost use Rattle.net_blif.specs.Models.{begins, first_word as first_word_of, start, BlifDesign, Reads};
 ghost use Rattle.net_blif.specs.private.ReadOn.{ReadsOn};
 
@@ -10,6 +9,7 @@ use crate::in_place::words_in_place;
 use crate::lines::next_joined;
 use crate::reader::Reader;
 use crate::spelling::are_tokens;
+use crate::statement::{is_dotted, is_word};
 use crate::token::Token;
 use crate::{BlifFault, Design};
 use net_core::key_of;
@@ -37,15 +37,6 @@ fn first_word<'a>(words: &[Token<'a>]) -> &'a [u8]
     }
 }
 
-fn begins_with_dot(word: &[u8]) -> bool
-    ensures { result ≡ dotted word.now }
-{
-    match word {
-        [first, ..] => *first == b'.',
-        [] => false,
-    }
-}
-
 // Whether the first statement of a text is `.model`.
 fn has_model(alloc: Global, text: &[u8]) -> Result<bool, AllocError>
     requires { length text.now ≤ 67108864 }
@@ -56,8 +47,8 @@ fn has_model(alloc: Global, text: &[u8]) -> Result<bool, AllocError>
     while !rest.is_empty() {
         let (after, _) = next_joined(alloc, rest, &mut words)?;
         let word = first_word(&words);
-        if begins_with_dot(word) {
-            return Ok(word == b".model".as_slice());
+        if is_dotted(word) {
+            return Ok(is_word(word, b".model"));
         }
         rest = after;
     }
@@ -81,37 +72,68 @@ fn read_first<'a>(
     ensures shorter { IfOk result (λ r. length r.0.now < length text.now) }
 {
     if let Some(row) = reader.row_at(text) {
-        reader.read_row(row.pattern, row.output)?;
-        return Ok((row.after, 1));
+        return match reader.read_row(row.pattern, row.output) {
+            Ok(()) => Ok((row.after, 1)),
+            Err(AllocError) => Err(BlifFault::OutOfMemory),
+        };
     }
-    if let Some((is_cover, after)) = words_in_place(text, words)? {
-        reader.read_alone(alloc, number, is_cover, words)?;
-        return Ok((after, 1));
+    let Ok(found) = words_in_place(text, words) else {
+        return Err(BlifFault::OutOfMemory);
+    };
+    if let Some((is_cover, after)) = found {
+        return match reader.read_alone(alloc, number, is_cover, words) {
+            Ok(()) => Ok((after, 1)),
+            Err(fault) => Err(fault),
+        };
     }
+    read_joined(reader, alloc, number, text, words)
+}
+
+// The same of any first line, whose physical lines are joined.
+fn read_joined<'a>(
+    reader: &mut Reader<'a>,
+    alloc: Global,
+    number: u32,
+    text: &'a [u8],
+    words: &mut Vec<Token<'a>>,
+) -> Result<(&'a [u8], u32), BlifFault>
+    requires some { 0 < length text.now }
+    requires few { length text.now ≤ 67108864 }
+    ensures read { IfOk result (λ r. ReadsOn reader.old number text.now reader.new (number + r.1) r.0.now) }
+    ensures fault { IfErr result (λ e. (e ≡ BlifFault.OutOfMemory) ⊎ Reads reader.old (joined number (lines text.now)) (Err e)) }
+    ensures count { IfOk result (λ r. length r.0.now + r.1 ≤ length text.now) }
+    ensures shorter { IfOk result (λ r. length r.0.now < length text.now) }
+{
     let (after, count) = next_joined(alloc, text, words)?;
     if !are_tokens(words) {
         return Err(BlifFault::Syntax { line: number });
     }
-    reader.read_words(alloc, number, words)?;
-    Ok((after, count))
+    match reader.read_words(alloc, number, words) {
+        Ok(()) => Ok((after, count)),
+        Err(fault) => Err(fault),
+    }
 }
 
 // What the lines of a text say, one after another.
-fn read_lines(alloc: Global, text: &[u8]) -> Result<Reader<'_>, BlifFault>
-    requires { length text.now ≤ 67108864 }
-    ensures read { IfOk result (λ reader. Reads start (lines_of text.now) (Ok reader)) }
+fn read_lines<'a>(reader: &mut Reader<'a>, alloc: Global, text: &'a [u8]) -> Result<(), BlifFault>
+    requires few { length text.now ≤ 67108864 }
+    requires none { reader.old ≡ start }
+    ensures read { OnOk result (Reads start (lines_of text.now) (Ok reader.new)) }
     ensures fault { IfErr result (λ e. (e ≡ BlifFault.OutOfMemory) ⊎ Reads start (lines_of text.now) (Err e)) }
 {
-    let mut reader = Reader::new(alloc, key_of(text));
     let mut words = Vec::new(alloc);
     let mut rest = text;
     let mut number = 1u32;
     while !rest.is_empty() {
-        let (after, count) = read_first(&mut reader, alloc, number, rest, &mut words)?;
-        rest = after;
-        number += count;
+        match read_first(reader, alloc, number, rest, &mut words) {
+            Ok((after, count)) => {
+                rest = after;
+                number += count;
+            }
+            Err(fault) => return Err(fault),
+        }
     }
-    Ok(reader)
+    Ok(())
 }
 
 /// The models of a text in BLIF, of at most 67,108,864 bytes, or its first fault.
@@ -127,7 +149,8 @@ pub fn read_blif(alloc: Global, bytes: &[u8]) -> Result<Design, BlifFault>
     if !has_model(alloc, bytes)? {
         return Err(BlifFault::NoModel);
     }
-    let reader = read_lines(alloc, bytes)?;
+    let mut reader = Reader::new(alloc, key_of(bytes));
+    read_lines(&mut reader, alloc, bytes)?;
     let models = reader.finish(alloc)?;
     match Design::new(alloc, models) {
         Ok(design) => Ok(design),

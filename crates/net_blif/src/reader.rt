@@ -1,27 +1,24 @@
 //! What was read of a text, line by line.
-ghost use Rattle.std.specs.Prelude.{◌≡◌, ◌⊎◌, ◌≤◌, ◌∷◌, ℕ, [], None, Some, Ok, Err, codes, is_some, length, IfOk, IfErr, IfSome, OnOk, All, IsTrue};
+ghost use Rattle.std.specs.Prelude.{◌≡◌, ◌⊎◌, ◌∷◌, ℕ, None, Some, Ok, Err, codes, is_some, IfOk, IfErr, IfSome, OnOk, All, IsTrue};
 ghost use Rattle.std.specs.List.{list_all};
 ghost use Rattle.text_core.specs.Lines.{IsPrinting};
-ghost use Rattle.net_blif.specs.Connection.{is_connection};
 ghost use Rattle.net_blif.specs.Statement.{IsToken, is_cell, row_tokens};
 ghost use Rattle.net_blif.specs.private.FirstLine.{with_names, RowStandsAlone};
-ghost use Rattle.net_blif.specs.Cover.{begun};
+ghost use Rattle.net_blif.specs.private.Placing.{is_placed};
 ghost use Rattle.net_blif.specs.Item.{HasPrintingNames};
-ghost use Rattle.net_blif.specs.declared.item.Item.{Item};
-ghost use Rattle.net_blif.specs.Models.{in_model, with_cover_row, with_items, models_of, may_stand as may_stand_here, next as next_reading, start, ReadsLine};
+ghost use Rattle.net_blif.specs.Models.{in_model, with_cover_row, models_of, may_stand as may_stand_here, next as next_reading, start, ReadsLine};
 
 use crate::BlifFault;
+use crate::formals::text_of;
 use crate::model_list::ModelList;
 use crate::open_model::OpenModel;
 use crate::rows::PlacedRow;
 use crate::spelling::{nets_of, read_statement};
-use crate::statement::{Statement, start_of};
+use crate::statement::Statement;
 use crate::token::Token;
-use net_core::{Name, Start};
+use net_core::Name;
 use std::alloc::{AllocError, Global};
 use std::marker::Model;
-use std::mem::replace;
-use text_core::printing_text;
 
 /// The models that have ended, and the one whose lines are being read.
 #[derive(Drop)]
@@ -55,9 +52,7 @@ impl<'a> Reader<'a> {
     {
         if let Some(model) = self.model.take() {
             let last = model.finish()?;
-            let none = ModelList::new(alloc, self.design.key());
-            let design = replace(&mut self.design, none);
-            self.design = design.with(alloc, last)?;
+            self.design.add(alloc, last)?;
         }
         Ok(())
     }
@@ -92,79 +87,31 @@ impl<'a> Reader<'a> {
         ensures read { OnOk result (next_reading self.old line (Statement.Model name.now) ≡ Ok self.new) }
         ensures fault { IfErr result (λ e. (e ≡ BlifFault.OutOfMemory) ⊎ (next_reading self.old line (Statement.Model name.now) ≡ Err e)) }
     {
-        let name = name_of(alloc, name)?;
-        self.end(alloc)?;
-        if self.design.model(name.as_str()).is_some() {
+        let Ok(()) = self.end(alloc) else {
+            return Err(BlifFault::OutOfMemory);
+        };
+        let text = text_of(name);
+        if self.design.model(text).is_some() {
             return Err(BlifFault::ModelTwice { line });
         }
+        let Ok(name) = Name::new(alloc, text) else {
+            return Err(BlifFault::OutOfMemory);
+        };
         self.model = Some(OpenModel::new(alloc, name));
         Ok(())
     }
 
-    // Places primary inputs of the model.
-    fn place_inputs(&mut self, nets: &[Token<'_>]) -> Result<(), AllocError>
-        requires { All IsToken nets.now }
-        ensures { OnOk result (self.new ≡ in_model (with_items (Item.Inputs nets.now ∷ []) None) self.old) }
+    // Ends the cover just begun, and places what a statement says that belongs to a model and begins no cover.
+    fn place(&mut self, line: u32, statement: &Statement<'_, 'a>) -> Result<(), BlifFault>
+        requires names { HasPrintingNames statement.now }
+        requires kind { IsTrue (is_placed statement.now) }
+        ensures read { OnOk result (next_reading self.old line statement.now ≡ Ok self.new) }
+        ensures fault { IfErr result (λ e. (e ≡ BlifFault.OutOfMemory) ⊎ (next_reading self.old line statement.now ≡ Err e)) }
     {
         if let Some(model) = &mut self.model {
-            model.place_inputs(nets)?;
-        }
-        Ok(())
-    }
-
-    // Places outputs of the model.
-    fn place_outputs(&mut self, nets: &[Token<'_>]) -> Result<(), AllocError>
-        requires { All IsToken nets.now }
-        ensures { OnOk result (self.new ≡ in_model (with_items (Item.Outputs nets.now ∷ []) None) self.old) }
-    {
-        if let Some(model) = &mut self.model {
-            model.place_outputs(nets)?;
-        }
-        Ok(())
-    }
-
-    // Places a latch of the model.
-    fn place_latch(
-        &mut self,
-        line: u32,
-        next: &[u8],
-        out: &[u8],
-        start: Start,
-    ) -> Result<(), AllocError>
-        requires next { IsToken next.now }
-        requires out { IsToken out.now }
-        ensures { OnOk result (self.new ≡ in_model (with_items (Item.Latch line next.now out.now start ∷ []) None) self.old) }
-    {
-        if let Some(model) = &mut self.model {
-            model.place_latch(line, next, out, start)?;
-        }
-        Ok(())
-    }
-
-    // Places an instance in the model.
-    fn place_instance(
-        &mut self,
-        line: u32,
-        name: &[u8],
-        connections: &[Token<'_>],
-    ) -> Result<(), AllocError>
-        requires name { IsToken name.now }
-        requires tokens { All IsToken connections.now }
-        requires connections { IsTrue (list_all is_connection connections.now) }
-        ensures { OnOk result (self.new ≡ in_model (with_items (Item.Instance line name.now connections.now ∷ []) None) self.old) }
-    {
-        if let Some(model) = &mut self.model {
-            model.place_instance(line, name, connections)?;
-        }
-        Ok(())
-    }
-
-    // Ends the cover just begun.
-    fn close(&mut self) -> Result<(), AllocError>
-        ensures { OnOk result (self.new ≡ in_model (with_items [] None) self.old) }
-    {
-        if let Some(model) = &mut self.model {
-            model.close()?;
+            let Ok(()) = model.place(line, statement) else {
+                return Err(BlifFault::OutOfMemory);
+            };
         }
         Ok(())
     }
@@ -175,24 +122,6 @@ impl<'a> Reader<'a> {
     {
         if let Some(model) = &mut self.model {
             model.add_row(pattern, output)?;
-        }
-        Ok(())
-    }
-
-    // Begins a cover of these nets.
-    fn begin_cover(
-        &mut self,
-        line: u32,
-        inputs: &[Token<'a>],
-        out: &'a [u8],
-    ) -> Result<(), AllocError>
-        requires few { length inputs.now ≤ 6 }
-        requires inputs { All IsToken inputs.now }
-        requires out { IsToken out.now }
-        ensures { OnOk result (self.new ≡ in_model (with_items [] (Some (begun line inputs.now out.now))) self.old) }
-    {
-        if let Some(model) = &mut self.model {
-            model.begin_cover(line, inputs, out)?;
         }
         Ok(())
     }
@@ -208,8 +137,13 @@ impl<'a> Reader<'a> {
         if count > 6 {
             return Err(too_wide(line, count));
         }
-        self.begin_cover(line, inputs, out)?;
-        Ok(())
+        match &mut self.model {
+            Some(model) => match model.begin_cover(line, inputs, out) {
+                Ok(()) => Ok(()),
+                Err(AllocError) => Err(BlifFault::OutOfMemory),
+            },
+            None => Ok(()),
+        }
     }
 
     // Adds what one more statement says.
@@ -225,23 +159,20 @@ impl<'a> Reader<'a> {
     {
         match statement {
             Statement::Model(name) => self.begin(alloc, line, name.bytes()),
-            Statement::Inputs(nets) => Ok(self.place_inputs(nets.as_slice())?),
-            Statement::Outputs(nets) => Ok(self.place_outputs(nets.as_slice())?),
-            Statement::Clock(_) => Ok(self.close()?),
             Statement::Cover { inputs, out } => self.cover(line, inputs.as_slice(), out.bytes()),
-            Statement::Latch { next, out, rest } => {
-                let start = start_of(rest.as_slice());
-                Ok(self.place_latch(line, next.bytes(), out.bytes(), start)?)
-            }
-            Statement::Instance { model, connections } => {
-                Ok(self.place_instance(line, model.bytes(), connections.as_slice())?)
-            }
-            Statement::Row { pattern, output } => Ok(self.add_row(pattern.bytes(), *output)?),
-            Statement::End => Ok(self.end(alloc)?),
-            Statement::Other { word, .. } => {
-                let word = name_of(alloc, word.bytes())?;
-                Err(BlifFault::LeftOut { line, word })
-            }
+            Statement::Row { pattern, output } => match self.add_row(pattern.bytes(), *output) {
+                Ok(()) => Ok(()),
+                Err(AllocError) => Err(BlifFault::OutOfMemory),
+            },
+            Statement::End => match self.end(alloc) {
+                Ok(()) => Ok(()),
+                Err(AllocError) => Err(BlifFault::OutOfMemory),
+            },
+            Statement::Other { word, .. } => match Name::new(alloc, text_of(word.bytes())) {
+                Ok(word) => Err(BlifFault::LeftOut { line, word }),
+                Err(AllocError) => Err(BlifFault::OutOfMemory),
+            },
+            _ => self.place(line, statement),
         }
     }
 
@@ -263,8 +194,7 @@ impl<'a> Reader<'a> {
         requires stands { IsTrue (may_stand_here self.old (Statement.Row pattern.now output)) }
         ensures { OnOk result ((line : ℕ) → ReadsLine self.old line (row_tokens pattern.now output) (Ok self.new)) }
     {
-        self.add_row(pattern, output)?;
-        Ok(())
+        self.add_row(pattern, output)
     }
 
     // Whether a model is being read.
@@ -286,8 +216,7 @@ impl<'a> Reader<'a> {
         if !self.is_open() {
             return Err(BlifFault::Syntax { line });
         }
-        self.cover(line, parts.inputs, parts.out)?;
-        Ok(())
+        self.cover(line, parts.inputs, parts.out)
     }
 
     /// Adds what a line of these tokens says. After an error the reader is not used again.
@@ -310,8 +239,7 @@ impl<'a> Reader<'a> {
         if !self.may_stand(&statement) {
             return Err(BlifFault::Syntax { line });
         }
-        self.next(alloc, line, &statement)?;
-        Ok(())
+        self.next(alloc, line, &statement)
     }
 
     /// Adds what a line of these tokens says, or one of `.names` and these. After an error the reader is not used again.
@@ -330,17 +258,6 @@ impl<'a> Reader<'a> {
             return self.read_cover(line, words);
         }
         self.read_words(alloc, line, words)
-    }
-}
-
-// The name of bytes that print.
-fn name_of(alloc: Global, bytes: &[u8]) -> Result<Name, AllocError>
-    requires { IsPrinting bytes.now }
-    ensures { IfOk result (λ name. name ≡ bytes.now) }
-{
-    match printing_text(bytes) {
-        Some(text) => Name::new(alloc, text),
-        None => unreachable!(),
     }
 }
 

@@ -4,15 +4,16 @@ ghost use Rattle.text_core.specs.Lines.{tokens_of};
 ghost use Rattle.net_blif.specs.Statement.{IsToken, is_dotted as dotted};
 ghost use Rattle.net_blif.specs.Spelling.{bit_of as bit_that, cover_of, dotted_of, end_of, instance_of, latch_of, model_of, row_of, statement_of};
 
-use crate::statement::{Statement, are_connections, is_dotted, is_latch_end, is_pattern};
+use crate::statement::{Statement, are_connections, is_dotted, is_latch_end, is_pattern, is_word};
 use crate::token::{Token, Tokens};
 use std::alloc::{AllocError, Global};
 use text_core::is_printing;
 
 // Whether a token has 1 to 255 bytes that print.
-fn is_token(token: &[u8]) -> bool
-    ensures { IsTrue result ↔ IsToken token.now }
+fn is_token(word: &Token<'_>) -> bool
+    ensures { IsTrue result ↔ IsToken word.now }
 {
+    let token = word.bytes();
     !token.is_empty() && token.len() <= 255 && is_printing(token)
 }
 
@@ -30,16 +31,16 @@ pub fn all_words<'a>(alloc: Global, line: &'a [u8]) -> Result<Vec<Token<'a>>, Al
 pub fn are_tokens(words: &[Token<'_>]) -> bool
     ensures { IsTrue result ↔ All IsToken words.now }
 {
-    words.iter().all(|word| is_token(word.bytes()))
+    words.iter().all(is_token)
 }
 
 // The bit that a token says.
 fn bit_of(token: &[u8]) -> Option<bool>
     ensures { result ≡ bit_that token.now }
 {
-    if token == b"1".as_slice() {
+    if is_word(token, b"1") {
         Some(true)
-    } else if token == b"0".as_slice() {
+    } else if is_word(token, b"0") {
         Some(false)
     } else {
         None
@@ -156,28 +157,28 @@ fn end<'w, 'a>(rest: &'w [Token<'a>]) -> Option<Statement<'w, 'a>>
 fn dotted_statement<'w, 'a>(word: &'a [u8], rest: &'w [Token<'a>]) -> Option<Statement<'w, 'a>>
     ensures { result ≡ dotted_of word.now rest.now }
 {
-    if word == b".names".as_slice() {
+    if is_word(word, b".names") {
         return cover(rest);
     }
-    if word == b".model".as_slice() {
+    if is_word(word, b".model") {
         return model(rest);
     }
-    if word == b".inputs".as_slice() {
+    if is_word(word, b".inputs") {
         return Some(Statement::Inputs(Tokens::new(rest)));
     }
-    if word == b".outputs".as_slice() {
+    if is_word(word, b".outputs") {
         return Some(Statement::Outputs(Tokens::new(rest)));
     }
-    if word == b".clock".as_slice() {
+    if is_word(word, b".clock") {
         return Some(Statement::Clock(Tokens::new(rest)));
     }
-    if word == b".latch".as_slice() {
+    if is_word(word, b".latch") {
         return latch(rest);
     }
-    if word == b".subckt".as_slice() {
+    if is_word(word, b".subckt") {
         return instance(rest);
     }
-    if word == b".end".as_slice() {
+    if is_word(word, b".end") {
         return end(rest);
     }
     Some(Statement::Other {

@@ -3,6 +3,7 @@ ghost use Rattle.std.specs.Prelude.{◌≡◌};
 ghost use Rattle.net_blif.specs.Statement.{is_cell as cell_is, is_dotted as dotted, is_kind as kind_is, is_latch_end as latch_end_is, is_start as start_is};
 ghost use Rattle.net_blif.specs.Latch.{start_of as start_that, start_said};
 ghost use Rattle.std.specs.List.{list_all};
+ghost use Rattle.std.specs.Str.{bytes_eq};
 ghost use Rattle.net_blif.specs.Connection.{is_connection as connection_is};
 
 use crate::connection::is_connection;
@@ -42,6 +43,14 @@ pub enum Statement<'w, 'a> {
     },
 }
 
+/// Whether a token is this word. Always inlined, so that the length of a word that stands in the code is known.
+#[inline(always)]
+pub fn is_word(token: &[u8], word: &[u8]) -> bool
+    ensures { result ≡ bytes_eq token.now word.now }
+{
+    token == word
+}
+
 /// Whether a word begins with `.`.
 pub fn is_dotted(word: &[u8]) -> bool
     ensures { result ≡ dotted word.now }
@@ -53,10 +62,10 @@ pub fn is_dotted(word: &[u8]) -> bool
 }
 
 // Whether a byte is a cell of a row.
-fn is_cell(byte: u8) -> bool
-    ensures { result ≡ cell_is byte }
+fn is_cell(byte: &u8) -> bool
+    ensures { result ≡ cell_is byte.now }
 {
-    byte == b'0' || byte == b'1' || byte == b'-'
+    *byte == b'0' || *byte == b'1' || *byte == b'-'
 }
 
 /// Whether each byte of a word is a cell of a row. Most rows have one or two, which need no loop. Always inlined, since a call
@@ -66,9 +75,9 @@ pub fn is_pattern(word: &[u8]) -> bool
     ensures { result ≡ list_all cell_is word.now }
 {
     match word {
-        [cell] => is_cell(*cell),
-        [first, second] => is_cell(*first) && is_cell(*second),
-        _ => word.iter().all(|b| is_cell(*b)),
+        [cell] => is_cell(cell),
+        [first, second] => is_cell(first) && is_cell(second),
+        _ => word.iter().all(is_cell),
     }
 }
 
@@ -76,21 +85,18 @@ pub fn is_pattern(word: &[u8]) -> bool
 fn is_kind(token: &[u8]) -> bool
     ensures { result ≡ kind_is token.now }
 {
-    token == b"fe".as_slice()
-        || token == b"re".as_slice()
-        || token == b"ah".as_slice()
-        || token == b"al".as_slice()
-        || token == b"as".as_slice()
+    is_word(token, b"fe")
+        || is_word(token, b"re")
+        || is_word(token, b"ah")
+        || is_word(token, b"al")
+        || is_word(token, b"as")
 }
 
 // Whether a token is the start of a latch.
 fn is_start(token: &[u8]) -> bool
     ensures { result ≡ start_is token.now }
 {
-    token == b"0".as_slice()
-        || token == b"1".as_slice()
-        || token == b"2".as_slice()
-        || token == b"3".as_slice()
+    is_word(token, b"0") || is_word(token, b"1") || is_word(token, b"2") || is_word(token, b"3")
 }
 
 /// Whether these words may stand behind the nets of a latch.
@@ -110,9 +116,9 @@ pub fn is_latch_end(rest: &[Token<'_>]) -> bool
 fn said_start(token: &[u8]) -> Start
     ensures { result ≡ start_said token.now }
 {
-    if token == b"0".as_slice() {
+    if is_word(token, b"0") {
         Start::Zero
-    } else if token == b"1".as_slice() {
+    } else if is_word(token, b"1") {
         Start::One
     } else {
         Start::Unknown
@@ -134,5 +140,5 @@ pub fn start_of(rest: &[Token<'_>]) -> Start
 pub fn are_connections(tokens: &[Token<'_>]) -> bool
     ensures { result ≡ list_all connection_is tokens.now }
 {
-    tokens.iter().all(|token| is_connection(token.bytes()))
+    tokens.iter().all(is_connection)
 }

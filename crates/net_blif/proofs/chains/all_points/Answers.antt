@@ -4,7 +4,7 @@ use Rattle.net_blif.proofs.ChainLemmas.{all_marked, leads_none, marks_more}
 use Rattle.net_blif.proofs.chains.all_points.Goals as goal
 
 pub loop-preserved : goal.loop-preserved
-loop-preserved c = marks_more (leads_on c.args.graph.now 0) c.loop.counter c.loop.on.items c.push.new.self.items true c.loop.invariant c.in_ok-push.ensures.items (sym (leads_none c.args.graph.now c.loop.counter))
+loop-preserved c = marks_more (leads_on c.args.graph.now 0) c.loop.counter c.loop.on.items c.push.new.self.items true c.loop.invariant c.in-Ok.ensures.items (sym (leads_none c.args.graph.now c.loop.counter))
 
 pub returns : goal.returns
 returns c =

@@ -13,7 +13,7 @@ loop-point-init c = no_marks (leads_to c.args.graph.now c.args.on.now) _ (search
 
 pub loop-point-preserved : goal.loop-point-preserved
 loop-point-preserved c =
-    marks_more (leads_to c.args.graph.now c.args.on.now) c.loop-point.point c.loop-point.more.items c.push.new.self.items c.leads_into-mark.result c.loop-point.invariant c.in_ok-push.ensures.items
+    marks_more (leads_to c.args.graph.now c.args.on.now) c.loop-point.point c.loop-point.more.items c.push.new.self.items c.leads_into-mark.result c.loop-point.invariant c.in-Ok.ensures.items
     (c.leads_into-mark.ensures ∙ ap (list_any (λ b. slice_index_or c.args.on.now b false)) c.edges.ensures.edges)
 
 pub returns-clause-marks : goal.returns-clause-marks

@@ -1,5 +1,6 @@
 use Rattle.std.proofs.Common.{rules, ◌≡◌, ◌⊎◌, false, Err}
 use Rattle.std.specs.List.{list_any}
+use Rattle.std.proofs.lemmas.Result.{on_ok_weaker, IfErr-weaker}
 use Rattle.net_blif.specs.Models.{AreRight}
 use Rattle.net_blif.specs.private.Bare.{has_instances}
 use Rattle.net_blif.specs.declared.fault.BlifFault.TheVariants.{OutOfMemory}
@@ -22,10 +23,8 @@ returns-in_err-check_walk-clause-fault c =
     let fault : (c.in_err-check_walk.field-0.0 ≡ OutOfMemory) ⊎ AreRight c.args.models.now (Err c.in_err-check_walk.field-0.0) = wrong_walk c.args.models.now c.in_err-check_walk.field-0.0 OutOfMemory c.in_ok-check_instances.ensures.right c.in_err-check_walk.ensures.fault in
     search rules
 
-pub returns-in_err-check_depth-clause-fault : goal.returns-in_err-check_depth-clause-fault
-returns-in_err-check_depth-clause-fault c =
-    let fault : (c.in_err-check_depth.field-0.0 ≡ OutOfMemory) ⊎ AreRight c.args.models.now (Err c.in_err-check_depth.field-0.0) = wrong_depth c.args.models.now c.in_err-check_depth.field-0.0 OutOfMemory c.in_ok-check_instances.ensures.right c.in_ok-check_walk.ensures.ends c.in_err-check_depth.ensures.fault in
-    search rules
-
 pub returns-clause-right : goal.returns-clause-right
-returns-clause-right c = right c.args.models.now c.in_ok-check_instances.ensures.right c.in_ok-check_walk.ensures.ends c.in_ok-check_depth.ensures.within
+returns-clause-right c = on_ok_weaker c.check_depth.result (right c.args.models.now c.in_ok-check_instances.ensures.right c.in_ok-check_walk.ensures.ends) c.check_depth.ensures.within
+
+pub returns-clause-fault : goal.returns-clause-fault
+returns-clause-fault c = IfErr-weaker c.check_depth.result _ _ (λ fault why. wrong_depth c.args.models.now fault OutOfMemory c.in_ok-check_instances.ensures.right c.in_ok-check_walk.ensures.ends why) c.check_depth.ensures.fault

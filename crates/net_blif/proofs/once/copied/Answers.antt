@@ -6,7 +6,7 @@ use Rattle.net_blif.proofs.once.copied.Goals as goal
 pub loop-place-preserved : goal.loop-place-preserved
 loop-place-preserved c =
     let less : c.loop-place.place < length c.args.tokens.now = rw c.len-place-end.ensures at c.loop-place-test.true in
-    copy_step c.args.tokens.now c.loop-place.place c.get.result.now c.new.result [] c.loop-place.list.items c.push.new.self.items less c.get.ensures c.new.ensures c.loop-place.invariant c.in_ok-push.ensures.items
+    copy_step c.args.tokens.now c.loop-place.place c.get.result.now c.new.result [] c.loop-place.list.items c.push.new.self.items less c.get.ensures c.new.ensures c.loop-place.invariant c.in-Ok.ensures.items
 
 pub returns : goal.returns
 returns c =

@@ -13,7 +13,7 @@ pub loop-rest-preserved : goal.loop-rest-preserved
 loop-rest-preserved c =
     let n = c.loop-rest.invariant.same.0 in
     let words = c.next_joined.new.words.items in
-    let no_dot : is_dotted (first_word words) ≡ false = sym (c.if-begins_with_dot.ensures ∙ ap is_dotted (c.first_word-word.ensures ∙ ap first_word c.deref.ensures.value)) in
+    let no_dot : is_dotted (first_word words) ≡ false = sym (c.if-is_dotted.ensures ∙ ap is_dotted (c.first_word-word.ensures ∙ ap first_word c.deref.ensures.value)) in
     let after = begins (joined (n + c.in_ok-after.field-0-1) (lines c.in_ok-after.after.now)) in
     record {
       few = omega (arith, c.loop-rest.invariant.few, c.in_ok-after.ensures.shorter);

@@ -6,19 +6,16 @@ use Rattle.net_blif.proofs.PlaceLemmas.{gate_grown, gate_inside, instance_new, i
 use Rattle.net_blif.proofs.item_list.ItemList.push_instance.Goals as goal
 
 pub invariant_of-self : goal.invariant_of-self
-invariant_of-self c = sound_kept c.self.inside.tokens c.push_all.ensures.grows.0 c.push_all.new.self c.self.inside.places.items c.self.invariant c.push_all.ensures.grows.1
-
-pub invariant_of-self-in_err-end : goal.invariant_of-self-in_err-end
-invariant_of-self-in_err-end c = sound_kept c.self.inside.tokens c.push_all.ensures.grows.0 c.push_all.new.self c.self.inside.places.items c.self.invariant c.push_all.ensures.grows.1
+invariant_of-self c = sound_kept c.self.inside.tokens c.append_nets.ensures.grows.0 c.append_nets.new.tokens c.self.inside.places.items c.self.invariant c.append_nets.ensures.grows.1
 
 pub invariant_of-self-in_err-push : goal.invariant_of-self-in_err-push
-invariant_of-self-in_err-push c = sound_kept c.self.inside.tokens c.push_all.ensures.grows.0 c.push.new.self c.self.inside.places.items c.self.invariant (c.in_err-push.ensures.unchanged ∙ c.push_all.ensures.grows.1)
+invariant_of-self-in_err-push c = sound_kept c.self.inside.tokens c.append_nets.ensures.grows.0 c.push.new.self c.self.inside.places.items c.self.invariant (c.in_err-push.ensures.unchanged ∙ c.append_nets.ensures.grows.1)
 
 pub invariant_of-self-in_err-push-2 : goal.invariant_of-self-in_err-push-2
-invariant_of-self-in_err-push-2 c = sound_same c.self.inside.tokens (c.args.connections.now ++ c.args.model.now ∷ []) c.push.new.self c.self.inside.places.items c.push-2.new.self.items c.self.invariant (gate_grown c.self.inside.tokens c.args.connections.now c.push_all.new.self c.push.new.self c.args.model.now c.args.line c.in_ok-first.first c.in_ok-end.end 0 c.in_ok-push_all.ensures.made c.in_ok-push.ensures.made (c.in_ok-first.ensures ∙ c.len.ensures) (c.in_ok-end.ensures ∙ c.len-2.ensures)) c.in_err-push-2.ensures.items
+invariant_of-self-in_err-push-2 c = sound_same c.self.inside.tokens (c.args.connections.now ++ c.args.model.now ∷ []) c.push.new.self c.self.inside.places.items c.push-2.new.self.items c.self.invariant (gate_grown c.self.inside.tokens c.args.connections.now c.append_nets.new.tokens c.push.new.self c.args.model.now c.args.line c.in_ok-first.first c.in_ok-first.end 0 c.in_ok-first.ensures.made.0 c.in_ok-push.ensures.made c.in_ok-first.ensures.made.1 c.in_ok-first.ensures.made.2) c.in_err-push-2.ensures.items
 
 pub invariant_of-self-2 : goal.invariant_of-self-2
-invariant_of-self-2 c = sound_pushed c.self.inside.tokens (c.args.connections.now ++ c.args.model.now ∷ []) c.push.new.self c.self.inside.places.items c.push-2.new.self.items (places.Instance c.args.line c.in_ok-first.first c.in_ok-end.end) (items.Instance c.args.line c.args.model.now c.args.connections.now) c.self.invariant (gate_grown c.self.inside.tokens c.args.connections.now c.push_all.new.self c.push.new.self c.args.model.now c.args.line c.in_ok-first.first c.in_ok-end.end 0 c.in_ok-push_all.ensures.made c.in_ok-push.ensures.made (c.in_ok-first.ensures ∙ c.len.ensures) (c.in_ok-end.ensures ∙ c.len-2.ensures)) c.in_ok-push-2.ensures.items (instance_new c.self.inside.tokens c.args.connections.now c.push_all.new.self c.push.new.self c.args.model.now c.args.line c.in_ok-first.first c.in_ok-end.end 0 c.in_ok-push_all.ensures.made c.in_ok-push.ensures.made (c.in_ok-first.ensures ∙ c.len.ensures) (c.in_ok-end.ensures ∙ c.len-2.ensures)) (gate_inside c.self.inside.tokens c.args.connections.now c.push_all.new.self c.push.new.self c.args.model.now c.args.line c.in_ok-first.first c.in_ok-end.end 0 c.in_ok-push_all.ensures.made c.in_ok-push.ensures.made (c.in_ok-first.ensures ∙ c.len.ensures) (c.in_ok-end.ensures ∙ c.len-2.ensures)) (c.requires.model, c.requires.tokens, c.requires.connections)
+invariant_of-self-2 c = sound_pushed c.self.inside.tokens (c.args.connections.now ++ c.args.model.now ∷ []) c.push.new.self c.self.inside.places.items c.push-2.new.self.items (places.Instance c.args.line c.in_ok-first.first c.in_ok-first.end) (items.Instance c.args.line c.args.model.now c.args.connections.now) c.self.invariant (gate_grown c.self.inside.tokens c.args.connections.now c.append_nets.new.tokens c.push.new.self c.args.model.now c.args.line c.in_ok-first.first c.in_ok-first.end 0 c.in_ok-first.ensures.made.0 c.in_ok-push.ensures.made c.in_ok-first.ensures.made.1 c.in_ok-first.ensures.made.2) c.in_ok-push-2.ensures.items (instance_new c.self.inside.tokens c.args.connections.now c.append_nets.new.tokens c.push.new.self c.args.model.now c.args.line c.in_ok-first.first c.in_ok-first.end 0 c.in_ok-first.ensures.made.0 c.in_ok-push.ensures.made c.in_ok-first.ensures.made.1 c.in_ok-first.ensures.made.2) (gate_inside c.self.inside.tokens c.args.connections.now c.append_nets.new.tokens c.push.new.self c.args.model.now c.args.line c.in_ok-first.first c.in_ok-first.end 0 c.in_ok-first.ensures.made.0 c.in_ok-push.ensures.made c.in_ok-first.ensures.made.1 c.in_ok-first.ensures.made.2) (c.requires.model, c.requires.tokens, c.requires.connections)
 
 pub returns : goal.returns
-returns c = items_pushed c.self.inside.tokens (c.args.connections.now ++ c.args.model.now ∷ []) c.push.new.self c.self.inside.places.items c.push-2.new.self.items (places.Instance c.args.line c.in_ok-first.first c.in_ok-end.end) (items.Instance c.args.line c.args.model.now c.args.connections.now) c.self.invariant (gate_grown c.self.inside.tokens c.args.connections.now c.push_all.new.self c.push.new.self c.args.model.now c.args.line c.in_ok-first.first c.in_ok-end.end 0 c.in_ok-push_all.ensures.made c.in_ok-push.ensures.made (c.in_ok-first.ensures ∙ c.len.ensures) (c.in_ok-end.ensures ∙ c.len-2.ensures)) c.in_ok-push-2.ensures.items (instance_new c.self.inside.tokens c.args.connections.now c.push_all.new.self c.push.new.self c.args.model.now c.args.line c.in_ok-first.first c.in_ok-end.end 0 c.in_ok-push_all.ensures.made c.in_ok-push.ensures.made (c.in_ok-first.ensures ∙ c.len.ensures) (c.in_ok-end.ensures ∙ c.len-2.ensures)) ∙ ap (λ (list : List Item). list ++ items.Instance c.args.line c.args.model.now c.args.connections.now ∷ []) c.self.view_is
+returns c = items_pushed c.self.inside.tokens (c.args.connections.now ++ c.args.model.now ∷ []) c.push.new.self c.self.inside.places.items c.push-2.new.self.items (places.Instance c.args.line c.in_ok-first.first c.in_ok-first.end) (items.Instance c.args.line c.args.model.now c.args.connections.now) c.self.invariant (gate_grown c.self.inside.tokens c.args.connections.now c.append_nets.new.tokens c.push.new.self c.args.model.now c.args.line c.in_ok-first.first c.in_ok-first.end 0 c.in_ok-first.ensures.made.0 c.in_ok-push.ensures.made c.in_ok-first.ensures.made.1 c.in_ok-first.ensures.made.2) c.in_ok-push-2.ensures.items (instance_new c.self.inside.tokens c.args.connections.now c.append_nets.new.tokens c.push.new.self c.args.model.now c.args.line c.in_ok-first.first c.in_ok-first.end 0 c.in_ok-first.ensures.made.0 c.in_ok-push.ensures.made c.in_ok-first.ensures.made.1 c.in_ok-first.ensures.made.2) ∙ ap (λ (list : List Item). list ++ items.Instance c.args.line c.args.model.now c.args.connections.now ∷ []) c.self.view_is

@@ -1,6 +1,6 @@
-use Rattle.std.proofs.Common.{rules, ◌≡◌, ◌⊎◌, inr, codes, true, false, ◌∷◌, None, Err}
+use Rattle.std.proofs.Common.{rules, ◌≡◌, inr, true, false, None}
 use Rattle.std.specs.Prelude.{is_some}
-use Rattle.net_blif.specs.Models.{ReadsLine}
+use Rattle.std.proofs.lemmas.Result.{on_ok_weaker, IfErr-weaker}
 use Rattle.net_blif.specs.Spelling.{cover_of}
 use Rattle.net_blif.specs.declared.fault.BlifFault.TheVariants.{OutOfMemory}
 use Rattle.net_blif.proofs.NamesLemmas.{cover_added, cover_misplaced, cover_refused, nets_are_tokens, no_nets}
@@ -22,13 +22,12 @@ returns-then-not-is_open-clause-fault c =
     let closed : is_some c.args.self.now.model ≡ false = search rules in
     inr (cover_misplaced c.args.self.now c.args.line c.args.nets.now c.requires c.in-Some.parts.inputs.now c.in-Some.parts.out.now c.in-Some.ensures.some closed)
 
-pub returns-in_err-cover-clause-fault : goal.returns-in_err-cover-clause-fault
-returns-in_err-cover-clause-fault c =
-    let open_now : is_some c.args.self.now.model ≡ true = search rules in
-    let fault : (c.in_err-cover.field-0.0 ≡ OutOfMemory) ⊎ ReadsLine c.args.self.now c.args.line (codes ".names" ∷ c.args.nets.now) (Err c.in_err-cover.field-0.0) = cover_refused c.args.self.now c.args.line c.args.nets.now c.requires c.in-Some.parts.inputs.now c.in-Some.parts.out.now c.in-Some.ensures.some c.in_err-cover.field-0.0 OutOfMemory open_now c.in_err-cover.ensures.fault in
-    search rules
-
 pub returns-clause-read : goal.returns-clause-read
 returns-clause-read c =
     let open_now : is_some c.args.self.now.model ≡ true = search rules in
-    cover_added c.args.self.now c.args.line c.args.nets.now c.requires c.in-Some.parts.inputs.now c.in-Some.parts.out.now c.in-Some.ensures.some c.cover.new.self open_now c.in_ok-cover.ensures.read
+    on_ok_weaker c.cover.result (cover_added c.args.self.now c.args.line c.args.nets.now c.requires c.in-Some.parts.inputs.now c.in-Some.parts.out.now c.in-Some.ensures.some c.cover.new.self open_now) c.cover.ensures.read
+
+pub returns-clause-fault : goal.returns-clause-fault
+returns-clause-fault c =
+    let open_now : is_some c.args.self.now.model ≡ true = search rules in
+    IfErr-weaker c.cover.result _ _ (λ fault why. cover_refused c.args.self.now c.args.line c.args.nets.now c.requires c.in-Some.parts.inputs.now c.in-Some.parts.out.now c.in-Some.ensures.some fault OutOfMemory open_now why) c.cover.ensures.fault
