@@ -1,5 +1,5 @@
 -- One more line of what is being read.
-use Rattle.std.proofs.Common.{◌≡◌, ◌∙◌, ap, sym, refl, subst, ℕ, List, [], ◌∷◌, true, false, Result, Ok, Err, Some, inr}
+use Rattle.std.proofs.Common.{◌≡◌, ◌∙◌, ap, sym, refl, subst, ℕ, List, [], ◌∷◌, Bool, true, false, Result, Ok, Err, None, Some, inr}
 use Rattle.std.proofs.lemmas.Bool.{true≢false}
 use Rattle.std.specs.List.{list_any}
 use Rattle.std.specs.Str.{bytes_eq}
@@ -13,7 +13,7 @@ use Rattle.net_signature.specs.Reading.{Fits}
 use Rattle.net_signature.specs.declared.entry.Entry.{Entry}
 use Rattle.net_signature.specs.declared.entry.Entry.TheVariants.{Word, Feed, Block}
 use Rattle.net_signature.specs.declared.fault.SigFault.{SigFault}
-use Rattle.net_signature.specs.declared.fault.SigFault.TheVariants.{Syntax}
+use Rattle.net_signature.specs.declared.fault.SigFault.TheVariants.{Syntax, NameTwice}
 use Rattle.net_signature.proofs.ReaderLemmas.{fits_after, fits_first, syntax_moves}
 use Rattle.net_signature.proofs.EntryDetermined.{one_entry}
 
@@ -37,8 +37,8 @@ says_within line (Word word) says = tt
 says_within line (Feed feed) says = says.within
 says_within line (Block model) says = tt
 
-pub line_read : (body : BodyValue) (line : Line) (said : Entry) (result : Result BodyValue SigFault) → SaysHere body line (Ok said) → Fits same_body result (Returns (next body line.number said)) → Fits same_body result (ReadsLine body line)
-line_read body line said result says fits = fits_after same_body result (SaysHere body line) (λ e. Returns (next body line.number e)) said says fits
+pub line_read : {X : Type 0} (view : X → BodyValue) (body : BodyValue) (line : Line) (said : Entry) (result : Result X SigFault) → SaysHere body line (Ok said) → Fits view result (Returns (next body line.number said)) → Fits view result (ReadsLine body line)
+line_read view body line said result says fits = fits_after view result (SaysHere body line) (λ e. Returns (next body line.number e)) said says fits
 
 pub line_fails : (body : BodyValue) (line : Line) (fault : SigFault) → Fits same_entry (Err fault) (SaysHere body line) → Fits same_body (Err fault) (ReadsLine body line)
 line_fails body line fault fits = fits_first same_entry same_body fault (SaysHere body line) (λ e. Returns (next body line.number e)) fits
@@ -47,9 +47,20 @@ pub lines_read : (body more : BodyValue) (line : Line) (lines : List Line) (all 
 lines_read body more line lines all (Ok end) is first rest = let P : List Line → Type 0 = λ ls. Reads body ls (Ok end) in subst P (sym is) (more, first, rest)
 lines_read body more line lines all (Err fault) is first rest = let P : List Line → Type 0 = λ ls. Reads body ls (Err fault) in subst P (sym is) (inr (more, first, rest))
 
--- a block that begins, where no other is of its model
-pub begins : (body : BodyValue) (line : ℕ) (model : List ℕ) (blocks : List BlockValue) → blocks ≡ blocks_of body → list_any (λ (block : BlockValue). bytes_eq block.model model) blocks ≡ false → ◌≡◌ {A = Result BodyValue SigFault} (Ok (record body { blocks = blocks; block = Some (record { model = model; words = [] }) })) (block_begun body line model)
-begins body line model blocks are none =
-    let P : List BlockValue → Type 0 = λ bs. list_any (λ (block : BlockValue). bytes_eq block.model model) bs ≡ false in
-    let none' = subst P are none in
-    rw none' (ap (λ (bs : List BlockValue). Ok (record body { blocks = bs; block = Some (record { model = model; words = [] }) })) are)
+module _ (body ended : BodyValue) (line : ℕ) (model : List ℕ) (are : ended ≡ record body { blocks = blocks_of body; block = None }) where
+  -- whether a block is of the model, looked for among those that have ended
+  has_ended : (has : Bool) → has ≡ list_any (λ (block : BlockValue). bytes_eq block.model model) ended.blocks → list_any (λ (block : BlockValue). bytes_eq block.model model) (blocks_of body) ≡ has
+  has_ended has is = sym (is ∙ ap (λ (b : BodyValue). list_any (λ (block : BlockValue). bytes_eq block.model model) b.blocks) are)
+
+  -- a block that begins, where no other is of its model
+  pub begins : (block : BlockValue) → block ≡ record { model = model; words = [] } → false ≡ list_any (λ (block : BlockValue). bytes_eq block.model model) ended.blocks → ◌≡◌ {A = Result BodyValue SigFault} (Ok (record ended { block = Some block })) (block_begun body line model)
+  begins block new none =
+      let none' = has_ended false none in
+      let put : BodyValue → BlockValue → Result BodyValue SigFault = λ b n. Ok (record b { block = Some n }) in
+      rw none' (ap (λ (b : BodyValue). put b block) are ∙ ap (put (record body { blocks = blocks_of body; block = None })) new)
+
+  -- and where one is
+  pub begun_twice : true ≡ list_any (λ (block : BlockValue). bytes_eq block.model model) ended.blocks → ◌≡◌ {A = Result BodyValue SigFault} (Err (NameTwice line)) (block_begun body line model)
+  begun_twice twice =
+      let twice' = has_ended true twice in
+      rw twice' refl

@@ -3,6 +3,7 @@ use Rattle.std.proofs.Common.{◌≡◌, inl, inr, ap, sym, refl, subst, ℕ, �
 use Rattle.std.proofs.Math.Seq.{take-length}
 use Rattle.std.specs.List.{AllZip}
 use Rattle.outcome.specs.Outcome.{Outcome, ◌>>=◌, Exactly, Returns}
+use Rattle.outcome.specs.Steps.{with_value}
 use Rattle.text_core.specs.Numbers.{IsHex}
 use Rattle.net_signature.specs.Lines.{Token, Line}
 use Rattle.net_signature.specs.Statement.{SaysField, SaysTower, SaysElement}
@@ -33,6 +34,18 @@ fits_first view view' (TwoOutputs n) first second fits = inl fits
 fits_first view view' (TooManyWords n) first second fits = inl fits
 fits_first view view' (NoOutput block) first second fits = inl fits
 fits_first view view' OutOfMemory first second fits = tt
+
+-- what is made of a value is made of what is answered
+pub fits_with : {X A B : Type 0} (f : A → B) (view : X → A) (result : Result X SigFault) (answer : Result A SigFault) → Fits view result (Returns answer) → Fits (λ x. f (view x)) result (Returns (with_value f answer))
+fits_with f view (Ok x) answer is = ap (with_value f) is
+fits_with f view (Err (Syntax n)) answer is = ap (with_value f) is
+fits_with f view (Err (NameTwice n)) answer is = ap (with_value f) is
+fits_with f view (Err (NoFedWord n)) answer is = ap (with_value f) is
+fits_with f view (Err (FeedTwice n)) answer is = ap (with_value f) is
+fits_with f view (Err (TwoOutputs n)) answer is = ap (with_value f) is
+fits_with f view (Err (TooManyWords n)) answer is = ap (with_value f) is
+fits_with f view (Err (NoOutput block)) answer is = ap (with_value f) is
+fits_with f view (Err OutOfMemory) answer is = tt
 
 -- what the next line says
 pub next_ok : {X A : Type 0} (view : X → A) (result : Result X SigFault) (says : List Token → A → Type 0) (end : ℕ) (lines : List Line) (line : Line) (rest : List Line) → Ok (line, rest) ≡ first_of end lines → Fits view result (Says line says) → Fits {A = A × List Line} (λ x. (view x, rest)) result (Next end says lines)

@@ -1,7 +1,9 @@
 -- Texts that were seen, after one more.
-use Rattle.std.proofs.Common.{◌≡◌, ◌∙◌, ap, sym, refl, ℕ, ◌/◌, ◌%◌, ◌==◌, ◌&&◌, ◌||◌, List, [], ◌∷◌, ◌++◌, Bool, true, false, cond, Option, Some, arith}
+use Rattle.std.proofs.Common.{◌≡◌, ◌∙◌, ap, sym, refl, ℕ, ◌/◌, ◌%◌, ◌==◌, ◌&&◌, ◌||◌, List, [], ◌∷◌, ◌++◌, Bool, true, false, cond, Option, Some, String, string_bytes, arith}
 use Rattle.std.specs.Prelude.{is_some}
+use Rattle.std.specs.HashMap.{HashMap, IsEmpty, get_by_text}
 use Rattle.std.specs.List.{list_any}
+use Rattle.std.specs.Map.{lookup}
 use Rattle.std.specs.Str.{bytes_eq}
 use Rattle.std.proofs.lemmas.Bool.{eqb-true, eq-eqb}
 use Rattle.lists.specs.laws.BoolLaws.{or_swap}
@@ -20,6 +22,10 @@ any_push p (y ∷ ys) x = ap (λ b. p y || b) (any_push p ys x) ∙ or_swap (p y
 -- a list with one more element passes a test where the element does or the list did
 pub seen_more : {X : Type 0} (p : X → Bool) (xs new : List X) (x : X) (here before after : Bool) → new ≡ xs ++ x ∷ [] → here ≡ p x → before ≡ list_any p xs → after ≡ (here || before) → after ≡ list_any p new
 seen_more p xs new x here before after pushed is was step = step ∙ rw (is, was) (sym (ap (list_any p) pushed ∙ any_push p xs x))
+
+-- where nothing is left, nothing is seen
+pub none_seen : {X Y V S : Type 0} (p : X → Bool) (xs : List X) (q : List ℕ) (seen : HashMap (String Y) V S) → IsEmpty seen → xs ≡ [] → is_some (get_by_text seen q) ≡ list_any p xs
+none_seen {Y = Y} {V = V} p xs q seen empty none = ap (λ (entries : List (String Y × V)). is_some (lookup (λ (k : String Y). bytes_eq q (string_bytes k)) entries)) empty ∙ sym (ap (list_any p) none)
 
 pub any_same : {X : Type 0} (p q : X → Bool) → ((x : X) → p x ≡ q x) → (xs : List X) → list_any p xs ≡ list_any q xs
 any_same p q same [] = refl

@@ -1,5 +1,5 @@
 //! Blocks, one after another.
-ghost use Rattle.std.specs.Prelude.{◌≡◌, ◌++◌, ◌∷◌, [], IfOk};
+ghost use Rattle.std.specs.Prelude.{◌≡◌, ◌++◌, ◌∷◌, [], OnOk};
 ghost use Rattle.std.specs.List.{list_any};
 ghost use Rattle.std.specs.Str.{bytes_eq};
 ghost use Rattle.outcome.specs.Outcome.{Returns};
@@ -7,8 +7,8 @@ ghost use Rattle.net_signature.specs.Body.{block_with};
 ghost use Rattle.net_signature.specs.Reading.{Fits};
 
 use crate::fault::SigFault;
-use crate::seen::{Seen, is_seen, with_text};
-use crate::words::{has_output, with_word};
+use crate::seen::{Seen, add_text, is_seen};
+use crate::words::add_word;
 use indexmap::IndexMap;
 use net_core::{KeyedHash, Name};
 use net_words::WordText;
@@ -16,10 +16,18 @@ use std::alloc::{AllocError, Global};
 use std::marker::Model;
 
 /// A block: the words of a model. Contracts see its model and its words.
-#[derive(Drop)]
 pub struct Block {
     model: Name,
     words: Vec<WordText>,
+}
+
+// By hand, so that a caller that lets one go makes one call, and not one for each part.
+impl Drop for Block {
+    fn drop(self) {
+        let Block { model, words } = self;
+        drop(model);
+        drop(words);
+    }
 }
 
 impl Model for Block {
@@ -41,15 +49,11 @@ impl Block {
         }
     }
 
-    // The block with one more word.
-    pub(crate) fn with(self, word: WordText) -> Result<Block, SigFault>
-        ensures { Fits (λ block. block) result (Returns (block_with self word)) }
+    // One more word.
+    pub(crate) fn add(&mut self, word: WordText) -> Result<(), SigFault>
+        ensures { Fits (λ u. self.new) result (Returns (block_with self.old word)) }
     {
-        let Block { model, words } = self;
-        match with_word(words, word) {
-            Ok(words) => Ok(Block { model, words }),
-            Err(fault) => Err(fault),
-        }
+        add_word(&mut self.words, word)
     }
 
     /// The name of the model, at most 255 bytes.
@@ -106,16 +110,20 @@ impl Blocks {
         is_seen(&self.seen, model)
     }
 
-    /// With one more block.
-    pub fn with(self, alloc: Global, block: Block) -> Result<Blocks, AllocError>
-        ensures { IfOk result (λ blocks. blocks ≡ self ++ block ∷ []) }
+    /// One more block. Where memory runs out, some blocks are left.
+    pub fn add(&mut self, alloc: Global, block: Block) -> Result<(), AllocError>
+        ensures { OnOk result (self.new ≡ self.old ++ block ∷ []) }
     {
-        let Blocks { list, seen } = self;
         let name = String::from_str(alloc, block.model())?;
-        let seen = with_text(seen, name)?;
-        let mut list = list;
-        list.push(block)?;
-        Ok(Blocks { list, seen })
+        self.list.push(block)?;
+        match add_text(&mut self.seen, name) {
+            Ok(()) => Ok(()),
+            Err(error) => {
+                self.list.clear();
+                self.seen.clear();
+                Err(error)
+            }
+        }
     }
 
     /// The blocks, in order.

@@ -1,7 +1,7 @@
 //! What was read of the lines after the field and the towers.
-ghost use Rattle.std.specs.Prelude.{◌≡◌, ◌≤◌, length, Some, None, IfOk};
+ghost use Rattle.std.specs.Prelude.{◌≡◌, ◌≤◌, length, None, IfOk, OnOk};
 ghost use Rattle.outcome.specs.Outcome.{Returns};
-ghost use Rattle.net_signature.specs.Body.{begun, blocks_of, blocks_with, may_stand as may_stand_here, word_may_stand as word_may_stand_here, body_with, block_begun, fed_with, source_of as source_in, fed_word as fed_word_from, next as next_body, SaysHere, ReadsLine};
+ghost use Rattle.net_signature.specs.Body.{begun, blocks_of, may_stand as may_stand_here, word_may_stand as word_may_stand_here, body_with, block_begun, fed_with, source_of as source_in, fed_word as fed_word_from, next as next_body, SaysHere, ReadsLine};
 ghost use Rattle.net_signature.specs.private.Seen.{IsFeedWithin};
 ghost use Rattle.net_signature.specs.Reading.{Fits, line_of};
 
@@ -11,20 +11,36 @@ use crate::fault::SigFault;
 use crate::feeds::Feeds;
 use crate::lines::Statement;
 use crate::version::Version;
-use crate::words::{is_fed, with_word};
+use crate::words::{add_word, is_fed};
 use net_core::Name;
 use net_words::{FeedText, Source, WordText};
 use std::alloc::{AllocError, Global};
 use std::marker::Model;
 
 /// The words of the top, the feeds, the blocks that have ended, and the one whose words are being read.
-#[derive(Drop)]
 pub struct Body {
     version: Version,
     words: Vec<WordText>,
     feeds: Feeds,
     blocks: Blocks,
     block: Option<Block>,
+}
+
+// By hand, so that a caller that lets one go makes one call, and not one for each part.
+impl Drop for Body {
+    fn drop(self) {
+        let Body {
+            version: _,
+            words,
+            feeds,
+            blocks,
+            block,
+        } = self;
+        drop(words);
+        drop(feeds);
+        drop(blocks);
+        drop(block);
+    }
 }
 
 impl Model for Body {
@@ -73,153 +89,65 @@ impl Body {
         }
     }
 
-    // With one more word of the top.
-    fn with_word_of_top(self, word: WordText) -> Result<Body, SigFault>
-        ensures { Fits (λ body. body) result (Returns (body_with self None word)) }
+    // One more word of the top, or of the block being read. Here and below a fault leaves some body.
+    fn add_word(&mut self, word: WordText) -> Result<(), SigFault>
+        ensures { Fits (λ u. self.new) result (Returns (body_with self.old self.old.block word)) }
     {
-        let Body {
-            version,
-            words,
-            feeds,
-            blocks,
-            block,
-        } = self;
-        match with_word(words, word) {
-            Ok(words) => Ok(Body {
-                version,
-                words,
-                feeds,
-                blocks,
-                block,
-            }),
-            Err(fault) => Err(fault),
+        match &mut self.block {
+            None => add_word(&mut self.words, word),
+            Some(block) => block.add(word),
         }
     }
 
-    // With one more word of the top, or of the block being read.
-    fn with_word(self, word: WordText) -> Result<Body, SigFault>
-        ensures { Fits (λ body. body) result (Returns (body_with self self.block word)) }
-    {
-        let Body {
-            version,
-            words,
-            feeds,
-            blocks,
-            block,
-        } = self;
-        match block {
-            None => {
-                let body = Body {
-                    version,
-                    words,
-                    feeds,
-                    blocks,
-                    block: None,
-                };
-                body.with_word_of_top(word)
-            }
-            Some(block) => match block.with(word) {
-                Ok(block) => Ok(Body {
-                    version,
-                    words,
-                    feeds,
-                    blocks,
-                    block: Some(block),
-                }),
-                Err(fault) => Err(fault),
-            },
-        }
-    }
-
-    // With one more feed from this source.
-    fn with_feed(
-        self,
-        alloc: Global,
-        line: u32,
-        feed: FeedLine,
-        source: Source,
-    ) -> Result<Body, SigFault>
+    // One more feed, whose word is a fed word of the top.
+    fn add_feed(&mut self, alloc: Global, line: u32, feed: FeedLine) -> Result<(), SigFault>
         requires { feed.cycle ≤ 4096 }
-        ensures { Fits (λ body. body) result (Returns (fed_with self line feed (Ok source))) }
-    {
-        let Body {
-            version,
-            words,
-            feeds,
-            blocks,
-            block,
-        } = self;
-        let text = FeedText {
-            line,
-            net: feed.net,
-            cycle: feed.cycle,
-            source,
-        };
-        match feeds.with(alloc, text) {
-            Ok(feeds) => Ok(Body {
-                version,
-                words,
-                feeds,
-                blocks,
-                block,
-            }),
-            Err(fault) => Err(fault),
-        }
-    }
-
-    // With one more feed, whose word is a fed word of the top.
-    fn fed(self, alloc: Global, line: u32, feed: FeedLine) -> Result<Body, SigFault>
-        requires { feed.cycle ≤ 4096 }
-        ensures { Fits (λ body. body) result (Returns (fed_with self line feed (source_in self.words line feed.source))) }
+        ensures { Fits (λ u. self.new) result (Returns (fed_with self.old line feed (source_in self.old.words line feed.source))) }
     {
         match source_of(&self.words, line, &feed.source) {
-            Ok(source) => self.with_feed(alloc, line, feed, source),
+            Ok(source) => self.feeds.add(
+                alloc,
+                FeedText {
+                    line,
+                    net: feed.net,
+                    cycle: feed.cycle,
+                    source,
+                },
+            ),
             Err(fault) => Err(fault),
         }
     }
 
-    // All blocks.
-    fn ended(blocks: Blocks, block: Option<Block>, alloc: Global) -> Result<Blocks, AllocError>
-        ensures { IfOk result (λ all. all ≡ blocks_with blocks block) }
+    // Ends the block that is being read, if there is one.
+    fn end_block(&mut self, alloc: Global) -> Result<(), AllocError>
+        ensures { OnOk result (self.new ≡ record self.old { blocks = blocks_of self.old; block = None }) }
     {
-        match block {
-            None => Ok(blocks),
-            Some(block) => blocks.with(alloc, block),
+        match self.block.take() {
+            None => Ok(()),
+            Some(block) => self.blocks.add(alloc, block),
         }
     }
 
-    // With a block of this model that begins.
-    fn begin(self, alloc: Global, line: u32, model: Name) -> Result<Body, SigFault>
-        ensures { Fits (λ body. body) result (Returns (block_begun self line model)) }
+    // A block of this model begins.
+    fn begin(&mut self, alloc: Global, line: u32, model: Name) -> Result<(), SigFault>
+        ensures { Fits (λ u. self.new) result (Returns (block_begun self.old line model)) }
     {
-        let Body {
-            version,
-            words,
-            feeds,
-            blocks,
-            block,
-        } = self;
-        let blocks = Body::ended(blocks, block, alloc)?;
-        if blocks.has(model.as_str()) {
+        self.end_block(alloc)?;
+        if self.blocks.has(model.as_str()) {
             return Err(SigFault::NameTwice { line });
         }
-        Ok(Body {
-            version,
-            words,
-            feeds,
-            blocks,
-            block: Some(Block::new(alloc, model)),
-        })
+        self.block = Some(Block::new(alloc, model));
+        Ok(())
     }
 
-    // With what one more line says.
-    fn next(self, alloc: Global, line: u32, entry: Entry) -> Result<Body, SigFault>
+    // Adds what one more line says.
+    fn next(&mut self, alloc: Global, line: u32, entry: Entry) -> Result<(), SigFault>
         requires { IsFeedWithin entry }
-        ensures { Fits (λ body. body) result (Returns (next_body self line entry)) }
+        ensures { Fits (λ u. self.new) result (Returns (next_body self.old line entry)) }
     {
         match entry {
-            Entry::Word(word) => self.with_word(word),
-            Entry::Feed(feed) => self.fed(alloc, line, feed),
+            Entry::Word(word) => self.add_word(word),
+            Entry::Feed(feed) => self.add_feed(alloc, line, feed),
             Entry::Block(model) => self.begin(alloc, line, model),
         }
     }
@@ -241,9 +169,9 @@ impl Body {
         Ok(entry)
     }
 
-    /// With what one more line says.
-    pub fn read_line(self, alloc: Global, statement: &Statement) -> Result<Body, SigFault>
-        ensures { Fits (λ body. body) result (ReadsLine self (line_of statement.now)) }
+    /// Adds what one more line says. A fault leaves some body.
+    pub fn read_line(&mut self, alloc: Global, statement: &Statement) -> Result<(), SigFault>
+        ensures { Fits (λ u. self.new) result (ReadsLine self.old (line_of statement.now)) }
     {
         match self.entry_here(alloc, statement) {
             Ok(entry) => self.next(alloc, statement.number, entry),
@@ -260,15 +188,26 @@ impl Body {
         ensures feeds { IfOk result (λ parts. parts.1.items ≡ self.feeds) }
         ensures blocks { IfOk result (λ parts. parts.2.items ≡ blocks_of self) }
     {
+        let mut body = self;
+        body.end_block(alloc)?;
+        Ok(body.into_parts())
+    }
+
+    // The words of the top, the feeds, and the blocks that have ended.
+    fn into_parts(self) -> (Vec<WordText>, Vec<FeedText>, Vec<Block>)
+        ensures words { result.0.items ≡ self.words }
+        ensures feeds { result.1.items ≡ self.feeds }
+        ensures blocks { result.2.items ≡ self.blocks }
+    {
         let Body {
+            version: _,
             words,
             feeds,
             blocks,
             block,
-            ..
         } = self;
-        let blocks = Body::ended(blocks, block, alloc)?;
-        Ok((words, feeds.into_list(), blocks.into_list()))
+        drop(block);
+        (words, feeds.into_list(), blocks.into_list())
     }
 }
 

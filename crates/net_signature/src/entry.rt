@@ -1,5 +1,5 @@
 //! What a line after the field and the towers says.
-ghost use Rattle.std.specs.Prelude.{◌≡◌, ◌∷◌, ◌↔◌, [], map, codes, IsTrue};
+ghost use Rattle.std.specs.Prelude.{◌∷◌, [], map, codes};
 ghost use Rattle.net_signature.specs.Statement.{SaysEntry, SaysBlock};
 ghost use Rattle.net_signature.specs.Outcomes.{OrSyntax};
 ghost use Rattle.net_signature.specs.Reading.{Fits, line_of};
@@ -7,6 +7,7 @@ ghost use Rattle.net_signature.specs.Reading.{Fits, line_of};
 use crate::fault::SigFault;
 use crate::feed_line::read_feed;
 use crate::lines::Statement;
+use crate::token::is_token;
 use crate::word_line::{net_name, read_word};
 use net_core::Name;
 use net_words::WordText;
@@ -32,7 +33,6 @@ pub struct FeedLine {
 }
 
 /// What a line says of the source of a feed.
-#[derive(Drop)]
 pub enum SourceText {
     /// The constant 0.
     Zero,
@@ -40,6 +40,16 @@ pub enum SourceText {
     One,
     /// A bit of the word of this name.
     Bit { word: Name, place: u32 },
+}
+
+// By hand, so that a caller that lets one go makes one call, and has no cases.
+impl Drop for SourceText {
+    fn drop(self) {
+        match self {
+            SourceText::Zero | SourceText::One => {}
+            SourceText::Bit { word, place: _ } => drop(word),
+        }
+    }
 }
 
 /// What a line says.
@@ -97,13 +107,6 @@ fn block_entry(alloc: Global, line: u32, rest: &[&[u8]]) -> Result<Entry, SigFau
         Ok(model) => Ok(Entry::Block(model)),
         Err(fault) => Err(fault),
     }
-}
-
-// Whether a token is this text.
-fn is_token(token: &[u8], text: &[u8]) -> bool
-    ensures { IsTrue result ↔ (token.now ≡ text.now) }
-{
-    token == text
 }
 
 // The model of a line `block MODEL`.

@@ -1,5 +1,5 @@
 //! Feeds, one after another.
-ghost use Rattle.std.specs.Prelude.{◌≡◌, ◌≤◌, ◌==◌, [], length, string_bytes, IfOk};
+ghost use Rattle.std.specs.Prelude.{◌≡◌, ◌≤◌, ◌==◌, ◌++◌, ◌∷◌, [], length, string_bytes, Ok, IfOk};
 ghost use Rattle.std.specs.List.{list_any};
 ghost use Rattle.outcome.specs.Outcome.{Returns};
 ghost use Rattle.net_signature.specs.Body.{is_feed_of, with_feed as feeds_with};
@@ -7,7 +7,7 @@ ghost use Rattle.net_signature.specs.private.Seen.{feed_key};
 ghost use Rattle.net_signature.specs.Reading.{Fits};
 
 use crate::fault::SigFault;
-use crate::seen::{Seen, is_seen, with_text};
+use crate::seen::{Seen, add_text, is_seen};
 use indexmap::IndexMap;
 use net_core::KeyedHash;
 use net_words::FeedText;
@@ -61,21 +61,33 @@ impl Feeds {
         is_seen(&self.seen, key)
     }
 
-    /// With one more feed, whose net has none in this cycle.
-    pub fn with(self, alloc: Global, feed: FeedText) -> Result<Feeds, SigFault>
+    /// One more feed, whose net has none in this cycle. A fault leaves some feeds.
+    pub fn add(&mut self, alloc: Global, feed: FeedText) -> Result<(), SigFault>
         requires { feed.cycle ≤ 4096 }
-        ensures { Fits (λ feeds. feeds) result (Returns (feeds_with self feed)) }
+        ensures { Fits (λ u. self.new) result (Returns (feeds_with self.old feed)) }
     {
         let line = feed.line;
         let key = key_of(alloc, feed.net.as_str(), feed.cycle)?;
         if self.has(key.as_str(), &feed) {
             return Err(SigFault::FeedTwice { line });
         }
-        let Feeds { list, seen } = self;
-        let seen = with_text(seen, key)?;
-        let mut list = list;
-        list.push(feed)?;
-        Ok(Feeds { list, seen })
+        self.push(key, feed)
+    }
+
+    // One more feed, of which this is the key. Where memory runs out, some feeds are left.
+    fn push(&mut self, key: String, feed: FeedText) -> Result<(), SigFault>
+        requires { string_bytes key ≡ feed_key feed.net feed.cycle }
+        ensures { Fits (λ u. self.new) result (Returns (Ok (self.old ++ feed ∷ []))) }
+    {
+        self.list.push(feed)?;
+        match add_text(&mut self.seen, key) {
+            Ok(()) => Ok(()),
+            Err(_) => {
+                self.list.clear();
+                self.seen.clear();
+                Err(SigFault::OutOfMemory)
+            }
+        }
     }
 
     /// The feeds, in order.

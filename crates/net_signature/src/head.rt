@@ -1,5 +1,5 @@
 //! The lines of a signature before its words: the version, the field and the towers.
-ghost use Rattle.std.specs.Prelude.{◌≡◌, ◌↔◌, ◌&&◌, [], ◌∷◌, map, IfOk, IfErr, IsTrue};
+ghost use Rattle.std.specs.Prelude.{◌≡◌, ◌&&◌, [], ◌∷◌, map, IfOk, IfErr};
 ghost use Rattle.net_signature.specs.Statement.{SaysVersion, SaysField, SaysTower};
 ghost use Rattle.net_signature.specs.Outcomes.{OrSyntax, Says, Next, tower_comes as comes_tower, begins_tower as begins_a_tower};
 ghost use Rattle.net_signature.specs.Signature.{TowerIf};
@@ -9,6 +9,7 @@ ghost use Rattle.net_signature.specs.declared.fault.SigFault.TheVariants.{OutOfM
 use crate::element::read_elements;
 use crate::fault::SigFault;
 use crate::lines::{Lines, Statement};
+use crate::token::is_token;
 use crate::version::Version;
 use std::alloc::Global;
 use text_core::read_hex;
@@ -79,13 +80,6 @@ fn field_from(number: u32, keyword: &[u8], modulus: &[u8]) -> Result<u128, SigFa
         Some(modulus) => Ok(modulus),
         None => Err(SigFault::Syntax { line: number }),
     }
-}
-
-// Whether a token is this text.
-fn is_token(token: &[u8], text: &[u8]) -> bool
-    ensures { IsTrue result ↔ (token.now ≡ text.now) }
-{
-    token == text
 }
 
 /// The coefficients of a tower, if its line may stand here and comes next.

@@ -16,6 +16,7 @@ mod lines;
 mod reader;
 mod seen;
 mod signature;
+mod token;
 mod version;
 mod word_line;
 mod words;

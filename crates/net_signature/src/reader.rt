@@ -65,13 +65,23 @@ fn read_body(alloc: Global, lines: &mut Lines, version: Version, key: u64) -> Re
     ensures { Fits (λ body. body) result (Reads (begun version) (left lines.old)) }
 {
     let mut body = Body::new(alloc, version, key);
-    while let Some(line) = lines.next()? {
-        body = match body.read_line(alloc, &line) {
-            Ok(body) => body,
-            Err(fault) => return Err(fault),
-        };
+    match read_on(alloc, lines, &mut body) {
+        Ok(()) => Ok(body),
+        Err(fault) => Err(fault),
     }
-    Ok(body)
+}
+
+// Adds what the lines that are left say. A fault leaves some body.
+fn read_on(alloc: Global, lines: &mut Lines, body: &mut Body) -> Result<(), SigFault>
+    ensures { Fits (λ u. body.new) result (Reads body.old (left lines.old)) }
+{
+    while let Some(line) = lines.next()? {
+        match body.read_line(alloc, &line) {
+            Ok(()) => {}
+            Err(fault) => return Err(fault),
+        }
+    }
+    Ok(())
 }
 
 // The signature of these parts, if no output word is missing.

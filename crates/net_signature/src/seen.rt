@@ -1,5 +1,5 @@
 //! Texts that were seen.
-ghost use Rattle.std.specs.Prelude.{◌≡◌, ◌||◌, ℕ, List, is_some, string_bytes, IfOk};
+ghost use Rattle.std.specs.Prelude.{◌≡◌, ◌||◌, ℕ, List, is_some, string_bytes, OnOk};
 ghost use Rattle.std.specs.Str.{bytes_eq};
 ghost use Rattle.indexmap.specs.IndexMap.{get_by_text};
 
@@ -17,11 +17,10 @@ pub fn is_seen(seen: &Seen, text: &str) -> bool
     seen.get(text).is_some()
 }
 
-/// These and one more.
-pub fn with_text(seen: Seen, text: String) -> Result<Seen, AllocError>
-    ensures { IfOk result (λ after. (q : List ℕ) → is_some (get_by_text after q) ≡ (bytes_eq (string_bytes text) q || is_some (get_by_text seen q))) }
+/// One more text.
+pub fn add_text(seen: &mut Seen, text: String) -> Result<(), AllocError>
+    ensures { OnOk result ((q : List ℕ) → is_some (get_by_text seen.new q) ≡ (bytes_eq (string_bytes text) q || is_some (get_by_text seen.old q))) }
 {
-    let mut seen = seen;
     seen.insert(text, 0)?;
-    Ok(seen)
+    Ok(())
 }

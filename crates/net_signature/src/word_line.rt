@@ -7,6 +7,7 @@ ghost use Rattle.net_signature.specs.Reading.{Fits};
 
 use crate::basis::read_basis;
 use crate::fault::SigFault;
+use crate::token::is_token;
 use net_core::{Name, Names};
 use net_words::{Role, WordText};
 use std::alloc::Global;
@@ -74,12 +75,16 @@ fn role_of(token: &[u8]) -> Option<Role>
     ensures found { IfSome result (λ role. SaysRole token.now role) }
     ensures none { IfNone result ((role : _) → SaysRole token.now role → ⊥) }
 {
-    match token {
-        b"input" => Some(Role::Input),
-        b"state" => Some(Role::State),
-        b"fed" => Some(Role::Fed),
-        b"output" => Some(Role::Output),
-        _ => None,
+    if is_token(token, b"input") {
+        Some(Role::Input)
+    } else if is_token(token, b"state") {
+        Some(Role::State)
+    } else if is_token(token, b"fed") {
+        Some(Role::Fed)
+    } else if is_token(token, b"output") {
+        Some(Role::Output)
+    } else {
+        None
     }
 }
 

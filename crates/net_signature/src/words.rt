@@ -5,6 +5,7 @@ ghost use Rattle.std.specs.Str.{bytes_eq};
 ghost use Rattle.outcome.specs.Outcome.{Returns};
 ghost use Rattle.net_words.specs.Roles.{is_output as is_output_word, input_count as count_inputs};
 ghost use Rattle.net_signature.specs.Body.{with_word as words_with, is_fed as is_fed_word};
+ghost use Rattle.net_signature.specs.Few.{AreFew};
 ghost use Rattle.net_signature.specs.Reading.{Fits};
 
 use crate::fault::SigFault;
@@ -12,24 +13,25 @@ use net_words::{Role, WordText};
 
 const MAX_WORDS: usize = 8;
 
-/// The words with one more, whose name is new; no second output word, and no ninth other word.
-pub fn with_word(words: Vec<WordText>, word: WordText) -> Result<Vec<WordText>, SigFault>
-    ensures { Fits (λ v. v.items) result (Returns (words_with words.items word)) }
+/// One more word, whose name is new; no second output word, and no ninth other word. A fault leaves the words as before.
+pub fn add_word(words: &mut Vec<WordText>, word: WordText) -> Result<(), SigFault>
+    ensures fits { Fits (λ u. words.new.items) result (Returns (words_with words.old.items word)) }
+    ensures few { AreFew words.old.items → AreFew words.new.items }
 {
     let line = word.line;
-    if has_name(&words, word.name.as_str()) {
+    let before = words.as_slice();
+    if has_name(before, word.name.as_str()) {
         return Err(SigFault::NameTwice { line });
     }
     if is_output(&word) {
-        if has_output(&words) {
+        if has_output(before) {
             return Err(SigFault::TwoOutputs { line });
         }
-    } else if input_count(&words) >= MAX_WORDS {
+    } else if input_count(before) >= MAX_WORDS {
         return Err(SigFault::TooManyWords { line });
     }
-    let mut words = words;
     words.push(word)?;
-    Ok(words)
+    Ok(())
 }
 
 // Whether a word has the name.
