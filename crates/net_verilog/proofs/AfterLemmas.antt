@@ -4,7 +4,6 @@ use Rattle.net_core.specs.NetList.{NetList, nets}
 use Rattle.net_verilog.specs.Tokens.{TokenValue, is_end}
 use Rattle.net_verilog.specs.Words.{next_kind, next_of, wrong}
 use Rattle.net_verilog.specs.declared.kind.Kind.{Kind}
-use Rattle.net_verilog.specs.declared.kind.Kind.TheVariants as kinds
 use Rattle.net_verilog.specs.Tree.{looseness}
 use Rattle.net_verilog.specs.Made.{settled}
 use Rattle.net_verilog.specs.Expression.{Expression, binding, binding_at, close_fault, goes_on}
@@ -20,6 +19,7 @@ use Rattle.net_verilog.specs.declared.fault.VerilogFault.{VerilogFault}
 use Rattle.net_verilog.specs.declared.fault.VerilogFault.TheVariants as faults
 use Rattle.net_verilog.specs.private.Standing.{BreaksHeld, Standing, StaysHeld, Holding, allows}
 use Rattle.net_verilog.proofs.EndLemmas.{close_group, group_refused, left_refused, push_left, raised, whole}
+use Rattle.net_verilog.proofs.KindLemmas.{goes}
 use Rattle.net_verilog.proofs.StepLemmas.{stack_more}
 
 -- a fault where an operand was read
@@ -87,32 +87,14 @@ left_on more final mid new line operator n pushed within grows on =
     let P : List Frame → Type 0 = IsStackOn final in
     subst P (sym pushed) (within, stack_more more final mid grows on)
 
-abbrev pub is_other : Next → Bool
-is_other nexts.Other = true
-is_other next = false
+-- what is an operator or `)`
+abbrev pub is_sign : Next → Bool
+is_sign nexts.Other = false
+is_sign next = true
 
 -- an operator or `)` is no end
-pub going : (kind : Kind) (next : Next) → next_kind kind ≡ next → is_other next ≡ false → is_end kind ≡ false
-going kinds.End next is other = let same : is_other nexts.Other ≡ false = ap is_other is ∙ other in absurd (cc)
-going kinds.Word next is other = refl
-going kinds.Escaped next is other = refl
-going kinds.Number next is other = refl
-going kinds.Open next is other = refl
-going kinds.Close next is other = refl
-going kinds.OpenIndex next is other = refl
-going kinds.CloseIndex next is other = refl
-going kinds.Comma next is other = refl
-going kinds.Semicolon next is other = refl
-going kinds.Colon next is other = refl
-going kinds.Equals next is other = refl
-going kinds.Tilde next is other = refl
-going kinds.And next is other = refl
-going kinds.Or next is other = refl
-going kinds.Xor next is other = refl
-going kinds.Xnor next is other = refl
-going kinds.LeftOut next is other = refl
-going kinds.Directive next is other = refl
-going kinds.Wrong next is other = refl
+pub going : (kind : Kind) (next : Next) → next_kind kind ≡ next → is_sign next ≡ true → is_end kind ≡ false
+going kind next is some = goes (λ k. is_sign (next_kind k)) refl kind (ap is_sign is ∙ some)
 
 -- the second of two causes, turned into another
 pub over : {P Q R : Type 0} → (Q → R) → P ⊎ Q → P ⊎ R

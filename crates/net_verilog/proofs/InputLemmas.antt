@@ -1,17 +1,16 @@
 -- Inputs and instances, as their readers' goals want them.
 use Rattle.std.proofs.Common.{◌≡◌, ◌⊎◌, ◌∙◌, ap, inl, inr, sym, ℕ, List, [], ◌∷◌, ◌++◌, Result, Ok, Err}
-use Rattle.outcome.specs.Outcome.{◌>>=◌, Exactly, Returns}
 use Rattle.net_core.specs.NetList.{NetList}
 use Rattle.net_verilog.specs.Tokens.{TokenValue}
 use Rattle.net_verilog.specs.Targets.{target_of}
 use Rattle.net_verilog.specs.Made.{mentioned, settled}
 use Rattle.net_verilog.specs.Expression.{Expression, Read}
 use Rattle.net_verilog.specs.Parts.{taken}
-use Rattle.net_verilog.specs.Assigns.{Reads, net_fault}
-use Rattle.net_verilog.specs.Several.{Several}
-use Rattle.net_verilog.specs.Instances.{ReadsInput, ReadsInstance, after_name, placed}
+use Rattle.net_verilog.specs.Assigns.{net_fault}
+use Rattle.net_verilog.specs.Instances.{ReadsInput, ReadsInstance, after_name}
 use Rattle.net_verilog.specs.Declarations.{Declarations}
 use Rattle.net_verilog.specs.private.Gates.{IsRefused}
+use Rattle.net_verilog.specs.private.Nets.{BeginsInstance, BreaksInstance, FromInputs, IsNoNet, Mentions}
 use Rattle.net_verilog.specs.declared.gate_kind.GateKind.{GateKind}
 use Rattle.net_verilog.specs.declared.sign.Sign.TheVariants as signs
 use Rattle.net_verilog.specs.declared.fault.VerilogFault.{VerilogFault}
@@ -25,24 +24,21 @@ module _ (declared : Declarations) (net : NetList) (so_far : List ℕ) (tokens :
   input_limit fault (inl memory) = inl memory
   input_limit fault (inr (refusal, settles, same)) = inr (inr (read, reads, inl (ap (λ f. Err f) same ∙ sym (ap net_fault settles))))
 
--- an instance from its inputs on
-abbrev pub FromInputs : Declarations → GateKind → NetList → ℕ → List TokenValue → Reads NetList
-FromInputs declared kind mid out first =
-    Several (ReadsInput declared) (mid, []) first >>= λ inputs. Returns (taken signs.Close inputs.1) >>= λ right. Returns (placed kind inputs.0.0 out inputs.0.1 right.0) >>= λ more. Exactly (more, right.1)
-
 -- what stands before the inputs
-module _ (declared : Declarations) (kind : GateKind) (net mid : NetList) (tokens named left comma first : List TokenValue) (name : List ℕ) (line out second : ℕ)
-    (skips : after_name tokens ≡ Ok named) (opens : taken signs.Open named ≡ Ok (line, left)) (targets : target_of declared left ≡ Ok (name, comma)) (mentions : mentioned net name ≡ Ok (mid, out)) (takes : taken signs.Comma comma ≡ Ok (second, first)) where
-  pub from_inputs : (outcome : Result (NetList × List TokenValue) VerilogFault) → FromInputs declared kind mid out first outcome → ReadsInstance declared kind net tokens outcome
-  from_inputs (Ok found) rest = (named, sym skips, ((line, left), sym opens, ((name, comma), sym targets, ((mid, out), sym (ap net_fault mentions), ((second, first), sym takes, rest)))))
-  from_inputs (Err fault) rest = inr (named, sym skips, inr ((line, left), sym opens, inr ((name, comma), sym targets, inr ((mid, out), sym (ap net_fault mentions), inr ((second, first), sym takes, rest)))))
+pub from_inputs : (declared : Declarations) (kind : GateKind) (net mid : NetList) (tokens first : List TokenValue) (out : ℕ) → BeginsInstance declared net tokens mid out first → (outcome : Result (NetList × List TokenValue) VerilogFault) → FromInputs declared kind mid out first outcome → ReadsInstance declared kind net tokens outcome
+from_inputs declared kind net mid tokens first out b (Ok found) rest = (b.named, sym b.skips, ((b.line, b.target), sym b.opens, ((b.mentions.name, b.comma), sym b.mentions.targets, ((mid, out), sym (ap net_fault b.mentions.mentions), ((b.second, first), sym b.takes, rest)))))
+from_inputs declared kind net mid tokens first out b (Err fault) rest = inr (b.named, sym b.skips, inr ((b.line, b.target), sym b.opens, inr ((b.mentions.name, b.comma), sym b.mentions.targets, inr ((mid, out), sym (ap net_fault b.mentions.mentions), inr ((b.second, first), sym b.takes, rest)))))
 
--- what stands before the net of the target
-module _ (declared : Declarations) (kind : GateKind) (net : NetList) (tokens named left comma : List TokenValue) (name : List ℕ) (line : ℕ) (fault : VerilogFault)
-    (skips : after_name tokens ≡ Ok named) (opens : taken signs.Open named ≡ Ok (line, left)) (targets : target_of declared left ≡ Ok (name, comma)) where
-  pub mention_refused : (text : List ℕ) → text ≡ name → IsRefused (mentioned net text) fault → (fault ≡ faults.OutOfMemory) ⊎ ReadsInstance declared kind net tokens (Err fault)
-  mention_refused text alike (inl memory) = inl memory
-  mention_refused text alike (inr (refusal, is, same)) = inr (inr (named, sym skips, inr ((line, left), sym opens, inr ((name, comma), sym targets, inl (ap (λ f. Err f) same ∙ sym (ap net_fault (ap (mentioned net) (sym alike) ∙ is)))))))
+-- what stands before the target
+module _ (declared : Declarations) (net : NetList) (tokens named target : List TokenValue) (line : ℕ) (fault : VerilogFault) (skips : after_name tokens ≡ Ok named) (opens : taken signs.Open named ≡ Ok (line, target)) where
+  pub net_refused : IsNoNet declared net target fault → BreaksInstance declared net tokens fault
+  net_refused (inl is) kind = inr (named, sym skips, inr ((line, target), sym opens, inl (sym is)))
+  net_refused (inr (name, comma, refusal, targets, mentions, same)) kind = inr (named, sym skips, inr ((line, target), sym opens, inr ((name, comma), sym targets, inl (ap (λ f. Err f) same ∙ sym (ap net_fault mentions)))))
 
-  pub comma_refused : (mid : NetList) (out : ℕ) → mentioned net name ≡ Ok (mid, out) → taken signs.Comma comma ≡ Err fault → ReadsInstance declared kind net tokens (Err fault)
-  comma_refused mid out mentions is = inr (named, sym skips, inr ((line, left), sym opens, inr ((name, comma), sym targets, inr ((mid, out), sym (ap net_fault mentions), inl (sym is)))))
+  pub comma_refused : (mid : NetList) (out : ℕ) (comma : List TokenValue) → Mentions declared net target mid out comma → taken signs.Comma comma ≡ Err fault → BreaksInstance declared net tokens fault
+  comma_refused mid out comma m is kind = inr (named, sym skips, inr ((line, target), sym opens, inr ((m.name, comma), sym m.targets, inr ((mid, out), sym (ap net_fault m.mentions), inl (sym is)))))
+
+-- a target whose net passes a limit
+pub no_net : (declared : Declarations) (net : NetList) (tokens rest : List TokenValue) (name : List ℕ) (fault : VerilogFault) → target_of declared tokens ≡ Ok (name, rest) → IsRefused (mentioned net name) fault → (fault ≡ faults.OutOfMemory) ⊎ IsNoNet declared net tokens fault
+no_net declared net tokens rest name fault targets (inl memory) = inl memory
+no_net declared net tokens rest name fault targets (inr (refusal, mentions, same)) = inr (inr (name, rest, refusal, targets, mentions, same))

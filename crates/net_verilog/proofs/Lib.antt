@@ -1,4 +1,8 @@
 pub mod Reduction
+pub mod KindLemmas
+pub mod KeywordLemmas
+pub mod TargetLemmas
+pub mod GateTableLemmas
 pub mod TokenLemmas
 pub mod PieceLemmas
 pub mod OpenLemmas

@@ -1,9 +1,9 @@
 -- All tokens print but for the bytes that no token has.
 use Rattle.std.proofs.Common.{◌≡◌, sym, refl, subst, ℕ, zero, suc, ◌+◌, ◌<◌, ◌≤◌, Bool, true, false, cond, List, [], ◌∷◌, length, take, get_or, Option, None, Some, arith}
-use Rattle.std.specs.Prelude.{◌==◌, ◌||◌, take_while}
-use Rattle.std.proofs.lemmas.Bool.{eqb-true}
-use Rattle.std.proofs.lemmas.Grind.{common_steps}
+use Rattle.std.specs.Prelude.{◌==◌, ◌||◌, ◌&&◌, nat_le, take_while}
+use Rattle.std.proofs.lemmas.Bool.{eqb-true, leb-true}
 use Rattle.std.proofs.lemmas.List.Sums.{take_while-cons}
+use Rattle.lists.specs.laws.BoolLaws.{first_true, second_true}
 use Rattle.text_core.specs.Lines.{IsPrinting}
 use Rattle.net_verilog.specs.Bytes.{is_white, is_letter, is_digit, class_has, run, after_pair}
 use Rattle.net_verilog.specs.Tokens.{Piece, piece, one_or_two, sign_kind, sign_piece, closed_piece, slash_piece, open_piece, escaped_piece, is_skipped, backquote_piece}
@@ -36,26 +36,37 @@ run_prints p shows (b ∷ bs) = rw (take_while-cons p b bs) (by (run_prints p sh
 word_prints : (b : ℕ) (bs : List ℕ) (n : ℕ) → Shows b → IsPrinting (take n bs) → IsPrinting (take (1 + n) (b ∷ bs))
 word_prints b bs n first rest = let same : 1 + n ≡ suc n = omega arith in rw same (all_cons b (take n bs) first rest)
 
-letter_shows : (b : ℕ) → is_letter b ≡ true → Shows b
-letter_shows b e = (grind (arith, common_steps), grind (arith, common_steps))
-
-digit_shows : (b : ℕ) → is_digit b ≡ true → Shows b
-digit_shows b e = (grind (arith, common_steps), grind (arith, common_steps))
-
-word_shows : (b : ℕ) → class_has WordByte b ≡ true → Shows b
-word_shows b e = (grind (arith, common_steps), grind (arith, common_steps))
-
-name_shows : (b : ℕ) → class_has NameByte b ≡ true → Shows b
-name_shows b e = (grind (arith, common_steps), grind (arith, common_steps))
-
-number_shows : (b : ℕ) → class_has NumberByte b ≡ true → Shows b
-number_shows b e = (grind (arith, common_steps), grind (arith, common_steps))
-
-print_shows : (b : ℕ) → class_has Printing b ≡ true → Shows b
-print_shows b e = (grind (arith, common_steps), grind (arith, common_steps))
-
 shown : (b n : ℕ) → Shows n → (b == n) ≡ true → Shows b
 shown b n h e = subst Shows (sym (eqb-true b n e)) h
+
+-- a byte from one to another, both of which print
+between : (low high b : ℕ) → 33 ≤ low → high ≤ 126 → (nat_le low b && nat_le b high) ≡ true → Shows b
+between low high b lowest highest is =
+    let above : low ≤ b = leb-true low b (first_true _ _ is) in
+    let below : b ≤ high = leb-true b high (second_true _ _ is) in
+    (omega (arith, lowest, above), omega (arith, highest, below))
+
+one_shows : (one other : Bool) (b : ℕ) → (one ≡ true → Shows b) → (other ≡ true → Shows b) → (one || other) ≡ true → Shows b
+one_shows true other b first second is = first refl
+one_shows false other b first second is = second is
+
+letter_shows : (b : ℕ) → is_letter b ≡ true → Shows b
+letter_shows b = one_shows _ _ b (one_shows _ _ b (between 65 90 b (omega arith) (omega arith)) (between 97 122 b (omega arith) (omega arith))) (shown b 95 (omega arith, omega arith))
+
+digit_shows : (b : ℕ) → is_digit b ≡ true → Shows b
+digit_shows b = between 48 57 b (omega arith) (omega arith)
+
+word_shows : (b : ℕ) → class_has WordByte b ≡ true → Shows b
+word_shows b = one_shows _ _ b (letter_shows b) (digit_shows b)
+
+name_shows : (b : ℕ) → class_has NameByte b ≡ true → Shows b
+name_shows b = one_shows _ _ b (word_shows b) (shown b 36 (omega arith, omega arith))
+
+number_shows : (b : ℕ) → class_has NumberByte b ≡ true → Shows b
+number_shows b = one_shows _ _ b (word_shows b) (shown b 39 (omega arith, omega arith))
+
+print_shows : (b : ℕ) → class_has Printing b ≡ true → Shows b
+print_shows b = between 33 126 b (omega arith) (omega arith)
 
 pub record PrintsPiece (p : Piece) (bytes : List ℕ) : Type 0 where
   pub prints : (k : Kind) → p.0 ≡ Some k → is_wrong k ≡ false → IsPrinting (take p.1 bytes)
@@ -85,7 +96,7 @@ link true kind rest A one other h = one refl
 link false kind rest A one other h = other h
 
 marked : (b : ℕ) → ((b == 35) || (b == 123) || (b == 63) || (b == 33)) ≡ true → Shows b
-marked b e = (grind (arith, common_steps), grind (arith, common_steps))
+marked b = one_shows _ _ b (one_shows _ _ b (one_shows _ _ b (shown b 35 (omega arith, omega arith)) (shown b 123 (omega arith, omega arith))) (shown b 63 (omega arith, omega arith))) (shown b 33 (omega arith, omega arith))
 
 sign_shows : (b : ℕ) → is_wrong (sign_kind b) ≡ false → Shows b
 sign_shows b =

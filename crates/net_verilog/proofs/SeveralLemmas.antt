@@ -3,11 +3,11 @@ use Rattle.std.proofs.Common.{◌≡◌, ◌∙◌, ap, inl, inr, sym, refl, sub
 use Rattle.outcome.specs.Outcome.{Determined, Exactly, ◌>>=◌}
 use Rattle.net_verilog.specs.Tokens.{TokenValue, is_end}
 use Rattle.net_verilog.specs.declared.kind.Kind.{Kind}
-use Rattle.net_verilog.specs.declared.kind.Kind.TheVariants as kinds
 use Rattle.net_verilog.specs.Parts.{is_comma}
 use Rattle.net_verilog.specs.Assigns.{Reads}
 use Rattle.net_verilog.specs.Several.{Either, SeveralOf, Several, after_first, comma_first}
 use Rattle.net_verilog.specs.declared.fault.VerilogFault.{VerilogFault}
+use Rattle.net_verilog.proofs.KindLemmas.{goes}
 
 module _ {S : Type 0} (one : S → List TokenValue → Reads S) where
   -- the last one
@@ -30,26 +30,7 @@ module _ {S : Type 0} (one : S → List TokenValue → Reads S) where
 
 -- a comma is not the end
 pub comma_goes : (kind : Kind) → is_comma kind ≡ true → is_end kind ≡ false
-comma_goes kinds.End is = absurd (cc)
-comma_goes kinds.Word is = refl
-comma_goes kinds.Escaped is = refl
-comma_goes kinds.Number is = refl
-comma_goes kinds.Open is = refl
-comma_goes kinds.Close is = refl
-comma_goes kinds.OpenIndex is = refl
-comma_goes kinds.CloseIndex is = refl
-comma_goes kinds.Comma is = refl
-comma_goes kinds.Semicolon is = refl
-comma_goes kinds.Colon is = refl
-comma_goes kinds.Equals is = refl
-comma_goes kinds.Tilde is = refl
-comma_goes kinds.And is = refl
-comma_goes kinds.Or is = refl
-comma_goes kinds.Xor is = refl
-comma_goes kinds.Xnor is = refl
-comma_goes kinds.LeftOut is = refl
-comma_goes kinds.Directive is = refl
-comma_goes kinds.Wrong is = refl
+comma_goes kind is = goes is_comma refl kind is
 
 -- two outcomes of a step and of what follows it are equal, where those of what follows are
 module _ {A B : Type 0} (first : Reads A) (second third : A × List TokenValue → Reads B) (one : Determined first) (two : (a : A × List TokenValue) (x y : Result (B × List TokenValue) VerilogFault) → second a x → third a y → x ≡ y) where

@@ -1,16 +1,17 @@
 -- The steps of the reader of expressions as its functions make them.
-use Rattle.std.proofs.Common.{◌≡◌, ◌⊎◌, ◌∙◌, inl, inr, ap, sym, refl, subst, ℕ, ◌<◌, ◌≤◌, Bool, true, false, List, [], ◌∷◌, drop, Ok, Err, Some, arith}
-use Rattle.std.specs.Prelude.{nat_le}
+use Rattle.std.proofs.Common.{◌≡◌, ◌⊎◌, ◌∙◌, inl, inr, ap, sym, refl, subst, ℕ, ◌<◌, ◌≤◌, Bool, List, [], ◌∷◌, drop, Option, None, Ok, Err, Some, arith}
+use Rattle.std.specs.Prelude.{if◌then◌else◌}
 use Rattle.std.proofs.lemmas.Bool.{le-leb}
 use Rattle.net_core.specs.NetList.{NetList, nets}
 use Rattle.net_verilog.specs.Tokens.{TokenValue}
-use Rattle.net_verilog.specs.Words.{start_of}
+use Rattle.net_verilog.specs.Words.{start_of, wrong}
 use Rattle.net_verilog.specs.Targets.{target_of}
 use Rattle.net_verilog.specs.Tree.{looseness}
 use Rattle.net_verilog.specs.Made.{mentioned, settled}
 use Rattle.net_verilog.specs.Expression.{Expression, start_fault, open_fault, target_fault}
 use Rattle.net_verilog.specs.private.Steps.{count_open}
 use Rattle.net_verilog.specs.private.Gates.{IsRefused, IsStackOn}
+use Rattle.net_verilog.specs.private.Nets.{IsNoNet}
 use Rattle.net_verilog.specs.Declarations.{Declarations}
 use Rattle.net_verilog.specs.declared.operator.Operator.{Operator}
 use Rattle.net_verilog.specs.declared.operator.Driver.{Driver}
@@ -90,30 +91,32 @@ module _ (declared : Declarations) (net : NetList) (old : List Frame) (here : Li
   pub fault_here : (fault : VerilogFault) → start_fault declared (count_open old) (start_of t) t ts ≡ Some fault → (start : NetList) (tokens : List TokenValue) → Standing declared start tokens net old here → Expression declared start tokens (Err fault)
   fault_here fault is start tokens s = operand_refused declared start tokens net old (t ∷ ts) fault (standing start tokens s) is
 
-  pub too_deep : (fault : VerilogFault) → (start_of t ≡ starts.Group) ⊎ (start_of t ≡ starts.Not) → 1024 ≤ count_open old → (fault ≡ faults.OutOfMemory) ⊎ (fault ≡ faults.LeftOut t.line t.text) → (fault ≡ faults.OutOfMemory) ⊎ ((start : NetList) → (tokens : List TokenValue) → Standing declared start tokens net old here → Expression declared start tokens (Err fault))
-  too_deep fault is many (inl e) = inl e
-  too_deep fault is many (inr e) = inr (fault_here fault (opens is ∙ (deep (nat_le 1024 (count_open old)) refl ∙ ap Some (sym e))))
+  -- what is opened where too much is open
+  pub open_wrong : (fault : VerilogFault) → (start_of t ≡ starts.Group) ⊎ (start_of t ≡ starts.Not) → (fault ≡ faults.OutOfMemory) ⊎ (open_fault (count_open old) t ≡ Some fault) → (fault ≡ faults.OutOfMemory) ⊎ ((start : NetList) → (tokens : List TokenValue) → Standing declared start tokens net old here → Expression declared start tokens (Err fault))
+  open_wrong fault is (inl e) = inl e
+  open_wrong fault is (inr e) = inr (fault_here fault (opens is ∙ e))
     where
       opens : (start_of t ≡ starts.Group) ⊎ (start_of t ≡ starts.Not) → start_fault declared (count_open old) (start_of t) t ts ≡ open_fault (count_open old) t
       opens (inl g) = ap (λ k. start_fault declared (count_open old) k t ts) g
       opens (inr n) = ap (λ k. start_fault declared (count_open old) k t ts) n
 
-      le-false : nat_le 1024 (count_open old) ≡ false → ⊥
-      le-false f = let yes-le = le-leb 1024 (count_open old) many in absurd (cc)
+  pub other_wrong : (fault : VerilogFault) → start_of t ≡ starts.Other → (fault ≡ faults.OutOfMemory) ⊎ (fault ≡ wrong t) → (fault ≡ faults.OutOfMemory) ⊎ ((start : NetList) → (tokens : List TokenValue) → Standing declared start tokens net old here → Expression declared start tokens (Err fault))
+  other_wrong fault is (inl e) = inl e
+  other_wrong fault is (inr e) = inr (fault_here fault (ap (λ k. start_fault declared (count_open old) k t ts) is ∙ ap Some (sym e)))
 
-      deep : (b : Bool) → nat_le 1024 (count_open old) ≡ b → open_fault (count_open old) t ≡ Some (faults.LeftOut t.line t.text)
-      deep true f = rw f refl
-      deep false f = absurd (le-false f)
-
-  pub target_wrong : (fault : VerilogFault) → start_of t ≡ starts.Target → (fault ≡ faults.OutOfMemory) ⊎ (target_of declared here ≡ Err fault) → (fault ≡ faults.OutOfMemory) ⊎ ((start : NetList) → (tokens : List TokenValue) → Standing declared start tokens net old here → Expression declared start tokens (Err fault))
+  pub target_wrong : (fault : VerilogFault) → start_of t ≡ starts.Target → (fault ≡ faults.OutOfMemory) ⊎ IsNoNet declared net here fault → (fault ≡ faults.OutOfMemory) ⊎ ((start : NetList) → (tokens : List TokenValue) → Standing declared start tokens net old here → Expression declared start tokens (Err fault))
   target_wrong fault is (inl e) = inl e
-  target_wrong fault is (inr e) = inr (fault_here fault (ap (λ k. start_fault declared (count_open old) k t ts) is ∙ ap target_fault (ap (target_of declared) (sym split) ∙ e)))
+  target_wrong fault is (inr (inl e)) = inr (fault_here fault (ap (λ k. start_fault declared (count_open old) k t ts) is ∙ ap target_fault (ap (target_of declared) (sym split) ∙ e)))
+  target_wrong fault is (inr (inr (name, rest, refusal, targets, mentions, e))) = inr (λ start tokens s.
+      let Q : VerilogFault → Type 0 = λ f. Expression declared start tokens (Err f) in
+      subst Q (sym e) (target_refused declared start tokens net old here rest name refusal s targets mentions))
+
+-- a token at which too much is open
+pub too_many : (count : ℕ) (t : TokenValue) (fault : VerilogFault) → 1024 ≤ count → (fault ≡ faults.OutOfMemory) ⊎ (fault ≡ faults.LeftOut t.line t.text) → (fault ≡ faults.OutOfMemory) ⊎ (open_fault count t ≡ Some fault)
+too_many count t fault many (inl e) = inl e
+too_many count t fault many (inr e) =
+    let F : Bool → Option VerilogFault = λ b. if b then Some (faults.LeftOut t.line t.text) else None in
+    inr (ap F (le-leb 1024 count many) ∙ ap Some (sym e))
 
 pub target_step : (declared : Declarations) (net more : NetList) (old : List Frame) (here rest : List TokenValue) (name : List ℕ) (n : ℕ) → target_of declared here ≡ Ok (name, rest) → mentioned net name ≡ Ok (more, n) → (start : NetList) (tokens : List TokenValue) → Standing declared start tokens net old here → Holding declared start tokens 0 more old (drivers.Wire n) rest
 target_step declared net more old here rest name n is mention start tokens s = hold_target declared start tokens net more old here rest name n s is mention
-
-pub target_limit : (declared : Declarations) (net : NetList) (old : List Frame) (here rest : List TokenValue) (name : List ℕ) (fault : VerilogFault) → target_of declared here ≡ Ok (name, rest) → IsRefused (mentioned net name) fault → (fault ≡ faults.OutOfMemory) ⊎ ((start : NetList) → (tokens : List TokenValue) → Standing declared start tokens net old here → Expression declared start tokens (Err fault))
-target_limit declared net old here rest name fault is (inl e) = inl e
-target_limit declared net old here rest name fault is (inr (refusal, mention, e)) = inr (λ start tokens s.
-    let Q : VerilogFault → Type 0 = λ f. Expression declared start tokens (Err f) in
-    subst Q (sym e) (target_refused declared start tokens net old here rest name refusal s is mention))

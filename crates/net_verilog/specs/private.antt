@@ -4,3 +4,5 @@ pub mod Entries
 pub mod Steps
 pub mod Gates
 pub mod Standing
+pub mod Keywords
+pub mod Nets

@@ -4,9 +4,9 @@ ghost use Rattle.net_verilog.specs.Assigns.{Assigns};
 ghost use Rattle.net_verilog.specs.private.Places.{left};
 
 use crate::expression::read_expression;
-use crate::gates::{drive, mentioned};
+use crate::gates::drive;
 use crate::parts::take;
-use crate::target::read_target;
+use crate::target_net::read_net;
 use crate::{Cursor, Sign, Table, VerilogFault};
 use net_core::NetMaker;
 use std::alloc::Global;
@@ -23,12 +23,8 @@ pub fn read_assignment<'a>(
     ensures shorter { IfOk result (λ after. length after.rest.now < length place.now.rest.now) }
     ensures fault { IfErr result (λ e. (e ≡ VerilogFault.OutOfMemory) ⊎ Assigns declared.now maker.old (left place.now) (Err e)) }
 {
-    let (name, sign) = match read_target(alloc, declared, place) {
+    let (out, sign) = match read_net(alloc, maker, declared, place) {
         Ok(found) => found,
-        Err(fault) => return Err(fault),
-    };
-    let out = match mentioned(maker, name.as_str()) {
-        Ok(out) => out,
         Err(fault) => return Err(fault),
     };
     let (_, begin) = match take(alloc, Sign::Equals, &sign) {

@@ -2,16 +2,18 @@
 ghost use Rattle.std.specs.Prelude.{◌≡◌, ◌⊎◌, ◌<◌, ◌≤◌, ◌∷◌, [], None, Some, Ok, Err, IfOk, IfErr, IfSome, IfNone, OnOk, length, drop};
 ghost use Rattle.net_core.specs.NetList.{nets};
 ghost use Rattle.net_verilog.specs.Tree.{looseness as looseness_of};
-ghost use Rattle.net_verilog.specs.Expression.{Expression};
+ghost use Rattle.net_verilog.specs.Expression.{Expression, open_fault};
 ghost use Rattle.net_verilog.specs.private.Gates.{IsDriverOn, IsLastOn, IsStackOn};
-ghost use Rattle.net_verilog.specs.private.Places.{left};
+ghost use Rattle.net_verilog.specs.private.Places.{left, value_of};
+ghost use Rattle.net_verilog.specs.private.Steps.{IsOpening, count_open};
 ghost use Rattle.net_verilog.specs.private.Standing.{BreaksExpression, BreaksHeld, EndsExpression, LeadsTo, StaysHeld, allows};
+ghost use Rattle.text_core.specs.Lines.{IsPrinting};
 
-use crate::gates::{mentioned, settle};
+use crate::gates::settle;
 use crate::stack::Stack;
-use crate::target::read_target;
-use crate::words::{is_end, left_out, next_of, start_of, wrong};
-use crate::{Cursor, Driver, Frame, Next, Operator, Start, Table, VerilogFault};
+use crate::target_net::read_net;
+use crate::words::{left_out, next_of, start_of, wrong};
+use crate::{Cursor, Driver, Frame, Next, Operator, Start, Table, Token, VerilogFault};
 use net_core::NetMaker;
 use std::alloc::Global;
 
@@ -24,6 +26,26 @@ fn looseness(operator: Operator) -> u32
         Operator::Xor | Operator::Xnor => 2,
         Operator::Or => 3,
     }
+}
+
+// Opens a `(` or a `~` at a token, where not too many are open.
+fn open_frame(
+    alloc: Global,
+    stack: &mut Stack,
+    token: &Token<'_>,
+    frame: Frame,
+) -> Result<(), VerilogFault>
+    requires prints { IsPrinting token.now.text.now }
+    requires opens { IsOpening frame }
+    ensures few { OnOk result (count_open stack.old < 1024) }
+    ensures pushed { OnOk result (stack.new ≡ frame ∷ stack.old) }
+    ensures fault { IfErr result (λ e. (e ≡ VerilogFault.OutOfMemory) ⊎ (open_fault (count_open stack.old) (value_of token.now) ≡ Some e)) }
+{
+    if stack.open() >= 1024 {
+        return Err(left_out(alloc, token.line, token.text));
+    }
+    stack.push_open(frame)?;
+    Ok(())
 }
 
 // Reads one token where an operand is wanted: `(`, `~`, or an operand.
@@ -43,24 +65,15 @@ fn begin<'a>(
     ensures fault { IfErr result (λ e. (e ≡ VerilogFault.OutOfMemory) ⊎ BreaksExpression declared.now maker.old stack.old None (left place.now) e) }
 {
     let (token, after) = place.next();
-    if is_end(token.kind) {
-        return Err(VerilogFault::Syntax { line: token.line });
-    }
     match start_of(&token) {
-        Start::Group => {
-            if stack.open() >= 1024 {
-                return Err(left_out(alloc, token.line, token.text));
-            }
-            stack.push_group()?;
-            Ok((None, after))
-        }
-        Start::Not => {
-            if stack.open() >= 1024 {
-                return Err(left_out(alloc, token.line, token.text));
-            }
-            stack.push_not(token.line)?;
-            Ok((None, after))
-        }
+        Start::Group => match open_frame(alloc, stack, &token, Frame::Group) {
+            Ok(()) => Ok((None, after)),
+            Err(fault) => Err(fault),
+        },
+        Start::Not => match open_frame(alloc, stack, &token, Frame::Not { line: token.line }) {
+            Ok(()) => Ok((None, after)),
+            Err(fault) => Err(fault),
+        },
         Start::Bit(bit) => Ok((
             Some(Driver::Literal {
                 line: token.line,
@@ -68,16 +81,10 @@ fn begin<'a>(
             }),
             after,
         )),
-        Start::Target => {
-            let (name, after) = match read_target(alloc, declared, place) {
-                Ok(found) => found,
-                Err(fault) => return Err(fault),
-            };
-            match mentioned(maker, name.as_str()) {
-                Ok(net) => Ok((Some(Driver::Wire(net)), after)),
-                Err(fault) => Err(fault),
-            }
-        }
+        Start::Target => match read_net(alloc, maker, declared, place) {
+            Ok((net, after)) => Ok((Some(Driver::Wire(net)), after)),
+            Err(fault) => Err(fault),
+        },
         Start::Other => Err(wrong(alloc, &token)),
     }
 }

@@ -21,6 +21,7 @@ mod sign;
 mod stack;
 mod table;
 mod target;
+mod target_net;
 mod words;
 
 pub use assign::read_assignment;

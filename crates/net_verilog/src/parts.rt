@@ -1,82 +1,28 @@
 //! Signs, identifiers and ranges.
 ghost use Rattle.std.specs.Prelude.{◌≡◌, ◌⊎◌, ◌<◌, ◌≤◌, Ok, Err, None, Some, IfOk, IfErr, length};
 ghost use Rattle.net_core.specs.Inside.{IsNetName};
-ghost use Rattle.net_verilog.specs.Parts.{bound as bound_that, bounds as bounds_that, identifier, is_close, is_colon, is_comma, is_equals, is_open, is_semicolon, is_sign as sign_is, range as range_that, taken};
+ghost use Rattle.net_verilog.specs.Parts.{bound as bound_that, bounds as bounds_that, identifier, is_sign as sign_is, range as range_that, taken};
 ghost use Rattle.net_verilog.specs.private.Decimals.{IsSmall};
 ghost use Rattle.net_verilog.specs.private.Places.{left};
 ghost use Rattle.text_core.specs.Lines.{IsPrinting};
 
 use crate::target::{decimal, name_of};
-use crate::words::{is_close_index, is_open_index, wrong};
+use crate::words::{is_open_index, wrong};
 use crate::{Cursor, Kind, Sign, VerilogFault};
 use std::alloc::Global;
-
-fn is_open_kind(kind: Kind) -> bool
-    ensures { result ≡ is_open kind }
-{
-    match kind {
-        Kind::Open => true,
-        _ => false,
-    }
-}
-
-fn is_close_kind(kind: Kind) -> bool
-    ensures { result ≡ is_close kind }
-{
-    match kind {
-        Kind::Close => true,
-        _ => false,
-    }
-}
-
-fn is_comma_kind(kind: Kind) -> bool
-    ensures { result ≡ is_comma kind }
-{
-    match kind {
-        Kind::Comma => true,
-        _ => false,
-    }
-}
-
-fn is_semicolon_kind(kind: Kind) -> bool
-    ensures { result ≡ is_semicolon kind }
-{
-    match kind {
-        Kind::Semicolon => true,
-        _ => false,
-    }
-}
-
-fn is_colon_kind(kind: Kind) -> bool
-    ensures { result ≡ is_colon kind }
-{
-    match kind {
-        Kind::Colon => true,
-        _ => false,
-    }
-}
-
-fn is_equals_kind(kind: Kind) -> bool
-    ensures { result ≡ is_equals kind }
-{
-    match kind {
-        Kind::Equals => true,
-        _ => false,
-    }
-}
 
 /// Whether a token is this sign.
 pub fn is_sign(sign: Sign, kind: Kind) -> bool
     ensures { result ≡ sign_is sign kind }
 {
     match sign {
-        Sign::Open => is_open_kind(kind),
-        Sign::Close => is_close_kind(kind),
-        Sign::CloseIndex => is_close_index(kind),
-        Sign::Comma => is_comma_kind(kind),
-        Sign::Semicolon => is_semicolon_kind(kind),
-        Sign::Colon => is_colon_kind(kind),
-        Sign::Equals => is_equals_kind(kind),
+        Sign::Open => matches!(kind, Kind::Open),
+        Sign::Close => matches!(kind, Kind::Close),
+        Sign::CloseIndex => matches!(kind, Kind::CloseIndex),
+        Sign::Comma => matches!(kind, Kind::Comma),
+        Sign::Semicolon => matches!(kind, Kind::Semicolon),
+        Sign::Colon => matches!(kind, Kind::Colon),
+        Sign::Equals => matches!(kind, Kind::Equals),
     }
 }
 

@@ -1,6 +1,6 @@
 //! What is open at a place of an expression.
 ghost use Rattle.std.specs.Prelude.{◌≡◌, ◌<◌, ◌∷◌, [], IfSome, IfNone, OnOk, drop};
-ghost use Rattle.net_verilog.specs.private.Steps.{count_open};
+ghost use Rattle.net_verilog.specs.private.Steps.{IsOpening, count_open};
 
 use crate::{Frame, Operator};
 use std::alloc::{AllocError, Global};
@@ -43,22 +43,13 @@ impl Stack {
         self.open
     }
 
-    /// Opens a `(`.
-    pub fn push_group(&mut self) -> Result<(), AllocError>
-        requires { count_open self.old < 1024 }
-        ensures { OnOk result (self.new ≡ Frame.Group ∷ self.old) }
+    /// Opens a `(` or a `~`.
+    pub fn push_open(&mut self, frame: Frame) -> Result<(), AllocError>
+        requires few { count_open self.old < 1024 }
+        requires opens { IsOpening frame }
+        ensures { OnOk result (self.new ≡ frame ∷ self.old) }
     {
-        self.frames.push(Frame::Group)?;
-        self.open += 1;
-        Ok(())
-    }
-
-    /// Opens a `~`.
-    pub fn push_not(&mut self, line: u32) -> Result<(), AllocError>
-        requires { count_open self.old < 1024 }
-        ensures { OnOk result (self.new ≡ Frame.Not line ∷ self.old) }
-    {
-        self.frames.push(Frame::Not { line })?;
+        self.frames.push(frame)?;
         self.open += 1;
         Ok(())
     }

@@ -6,12 +6,13 @@ ghost use Rattle.text_core.specs.Lines.{IsPrinting};
 ghost use Rattle.text_core.specs.Numbers.{value_of as value_that};
 ghost use Rattle.net_verilog.specs.Words.{is_decimal as decimal_that};
 ghost use Rattle.net_verilog.specs.Declarations.{bit_name as bit_that, range_of as range_that};
-ghost use Rattle.net_verilog.specs.Targets.{after_name, closed as closed_that, decimal_kind, indexed as indexed_that, name_kind, target_of};
+ghost use Rattle.net_verilog.specs.Targets.{after_name, decimal_kind, indexed as indexed_that, name_kind, target_of};
 ghost use Rattle.net_verilog.specs.private.Places.{Prints, left, value_of};
 ghost use Rattle.net_verilog.specs.private.Decimals.{HasBits, short};
 
-use crate::words::{is_close_index, is_decimal, is_keyword, is_open_index, text_of, wrong};
-use crate::{Cursor, Kind, Table, Token, VerilogFault};
+use crate::parts::{read_identifier, take};
+use crate::words::{is_decimal, is_keyword, is_open_index, text_of, wrong};
+use crate::{Cursor, Kind, Sign, Table, Token, VerilogFault};
 use net_core::Name;
 use std::alloc::{AllocError, Global};
 use text_core::read_decimal;
@@ -75,26 +76,6 @@ pub fn bit_name(alloc: Global, name: &str, index: u32) -> Result<Name, AllocErro
     Ok(net)
 }
 
-// Reads the `]` of a target.
-fn closed<'a>(
-    alloc: Global,
-    net: Name,
-    place: &Cursor<'a>,
-) -> Result<(Name, Cursor<'a>), VerilogFault>
-    requires { IsNetName net }
-    ensures found { IfOk result (λ r. closed_that net (left place.now) ≡ Ok (r.0, left r.1)) }
-    ensures name { IfOk result (λ r. IsNetName r.0) }
-    ensures shorter { IfOk result (λ r. length r.1.rest.now < length place.now.rest.now) }
-    ensures fault { IfErr result (λ e. (e ≡ VerilogFault.OutOfMemory) ⊎ (closed_that net (left place.now) ≡ Err e)) }
-{
-    let (token, after) = place.next();
-    if is_close_index(token.kind) {
-        Ok((net, after))
-    } else {
-        Err(wrong(alloc, &token))
-    }
-}
-
 // Reads an index and `]`.
 fn indexed<'a>(
     alloc: Global,
@@ -115,7 +96,10 @@ fn indexed<'a>(
         Some(None) => Err(VerilogFault::OutOfRange { line: token.line }),
         Some(Some(index)) => {
             if low <= index && index <= high {
-                closed(alloc, bit_name(alloc, name, index)?, &after)
+                match take(alloc, Sign::CloseIndex, &after) {
+                    Ok((_, end)) => Ok((bit_name(alloc, name, index)?, end)),
+                    Err(fault) => Err(fault),
+                }
             } else {
                 Err(VerilogFault::OutOfRange { line: token.line })
             }
@@ -179,14 +163,11 @@ pub fn read_target<'a>(
     ensures shorter { IfOk result (λ r. length r.1.rest.now < length place.now.rest.now) }
     ensures fault { IfErr result (λ e. (e ≡ VerilogFault.OutOfMemory) ⊎ (target_of declared.now (left place.now) ≡ Err e)) }
 {
-    let (token, after) = place.next();
-    let Some(name) = name_of(&token) else {
-        return Err(wrong(alloc, &token));
+    let ((line, name), after) = match read_identifier(alloc, place) {
+        Ok(found) => found,
+        Err(fault) => return Err(fault),
     };
-    if name.len() > 255 || name.is_empty() {
-        return Err(VerilogFault::Syntax { line: token.line });
-    }
-    match after_name_of(alloc, token.line, name, range_of(declared, name), &after) {
+    match after_name_of(alloc, line, name, range_of(declared, name), &after) {
         Ok(found) => Ok(found),
         Err(fault) => Err(fault),
     }

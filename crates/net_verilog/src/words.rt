@@ -4,18 +4,21 @@ ghost use Rattle.std.specs.List.{list_all};
 ghost use Rattle.net_verilog.specs.Bytes.{is_digit as digit_is};
 ghost use Rattle.net_verilog.specs.Words.{bit_of as bit_that, is_base as base_is, is_decimal as decimal_is, is_keyword as keyword_is, literal_of as literal_that, next_kind, start_of as start_that, wrong as wrong_token};
 ghost use Rattle.net_verilog.specs.Tokens.{is_end as end_is};
-ghost use Rattle.net_verilog.specs.Targets.{is_close_index as close_index_is, is_open_index as open_index_is};
+ghost use Rattle.net_verilog.specs.Targets.{is_open_index as open_index_is};
+ghost use Rattle.net_verilog.specs.private.Keywords.{is_plain_keyword as plain_is};
 ghost use Rattle.net_verilog.specs.private.Places.{Prints, value_of};
 ghost use Rattle.text_core.specs.Lines.{IsPrinting};
 
+use crate::gate_kind::gate_of;
 use crate::piece::is_digit;
 use crate::{Kind, Next, Operator, Start, Token, VerilogFault};
 use net_core::Name;
 use std::alloc::Global;
 use text_core::printing_text;
 
-pub fn is_keyword(word: &[u8]) -> bool
-    ensures { result ≡ keyword_is word.now }
+// Whether a word is a keyword that is no gate.
+fn is_plain_keyword(word: &[u8]) -> bool
+    ensures { result ≡ plain_is word.now }
 {
     word == b"module".as_slice()
         || word == b"endmodule".as_slice()
@@ -23,14 +26,15 @@ pub fn is_keyword(word: &[u8]) -> bool
         || word == b"output".as_slice()
         || word == b"wire".as_slice()
         || word == b"assign".as_slice()
-        || word == b"and".as_slice()
-        || word == b"or".as_slice()
-        || word == b"xor".as_slice()
-        || word == b"nand".as_slice()
-        || word == b"nor".as_slice()
-        || word == b"xnor".as_slice()
-        || word == b"not".as_slice()
-        || word == b"buf".as_slice()
+}
+
+pub fn is_keyword(word: &[u8]) -> bool
+    ensures { result ≡ keyword_is word.now }
+{
+    if is_plain_keyword(word) {
+        return true;
+    }
+    gate_of(word).is_some()
 }
 
 fn is_base(b: u8) -> bool
@@ -69,7 +73,14 @@ fn literal_of(text: &[u8]) -> Option<bool>
 fn are_digits(text: &[u8]) -> bool
     ensures { result ≡ list_all digit_is text.now }
 {
-    text.iter().all(|b| is_digit(*b))
+    let mut rest = text;
+    while let [b, after @ ..] = rest {
+        if !is_digit(*b) {
+            return false;
+        }
+        rest = after;
+    }
+    true
 }
 
 /// Whether there are decimal digits alone.
@@ -178,15 +189,6 @@ pub fn is_open_index(kind: Kind) -> bool
 {
     match kind {
         Kind::OpenIndex => true,
-        _ => false,
-    }
-}
-
-pub fn is_close_index(kind: Kind) -> bool
-    ensures { result ≡ close_index_is kind }
-{
-    match kind {
-        Kind::CloseIndex => true,
         _ => false,
     }
 }

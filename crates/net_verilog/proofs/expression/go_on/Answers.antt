@@ -3,6 +3,7 @@ use Rattle.net_verilog.specs.private.Places.{left, value_of}
 use Rattle.net_verilog.specs.Tokens.{unless_end}
 use Rattle.net_verilog.specs.declared.operator.Next.TheVariants as nexts
 use Rattle.net_verilog.proofs.AfterLemmas.{end_fault, ends_before, operator_step, operator_fault, close_step, group_wrong, done_step, going, left_on}
+use Rattle.net_verilog.proofs.StepLemmas.{on_popped}
 use Rattle.net_verilog.proofs.expression.go_on.Goals as goal
 
 pub returns-in-Err-clause-fault : goal.returns-in-Err-clause-fault
@@ -34,3 +35,12 @@ returns-in-None-top-clause-done c = done_step 3 c.args.maker.now c.end_all-in-Ot
 
 pub returns-in-Some-top-clause-fault : goal.returns-in-Some-top-clause-fault
 returns-in-Some-top-clause-fault c = group_wrong 3 c.args.maker.now c.end_all-in-Other.new.maker c.args.stack.now c.end_all-in-Other.new.stack c.args.driver c.in-Ok-end_all-2.last (left c.args.place.now) (value_of c.next.result.0) (unless_end c.next.result.0.kind (left c.next.result.1)) c.next.ensures.next (ends_before 3 (left c.args.place.now) (value_of c.next.result.0) (unless_end c.next.result.0.kind (left c.next.result.1)) nexts.Other c.next.ensures.next (sym c.next_of.ensures ∙ c.in-Other.is) refl) c.in-Ok-end_all-2.ensures.ended c.in-Some-top.field-0 c.wrong.result c.in-Some-top.ensures.some (c.in-Ok-end_all-2.ensures.group refl) (sym c.next_of.ensures ∙ c.in-Other.is) c.wrong.ensures
+
+pub returns-in_ok-push_left-in-Operator-clause-shorter : goal.returns-in_ok-push_left-in-Operator-clause-shorter
+returns-in_ok-push_left-in-Operator-clause-shorter c = c.next.ensures.shorter (going c.next.result.0.kind (nexts.Operator c.in-Operator.operator) (sym c.next_of.ensures ∙ c.in-Operator.is) refl)
+
+pub returns-in-Some-clause-shorter : goal.returns-in-Some-clause-shorter
+returns-in-Some-clause-shorter c = c.next.ensures.shorter (going c.next.result.0.kind nexts.Close (sym c.next_of.ensures ∙ c.in-Close.is) refl)
+
+pub returns-in-Some-clause-on : goal.returns-in-Some-clause-on
+returns-in-Some-clause-on c = on_popped c.end_all-in-Close.new.maker c.end_all-in-Close.new.maker c.end_all-in-Close.new.stack c.pop.new.self c.in-Some.field-0 c.in-Some.ensures.some c.pop.ensures (search rules) c.in-Ok-end_all.ensures.on
