@@ -1,5 +1,5 @@
 -- The steps of a binding, one after another.
-use Rattle.std.proofs.Common.{◌≡◌, ◌∙◌, ◌⊎◌, refl, inl, inr, sym, subst, arith, ℕ, ◌<◌, ◌+◌, List, [], ◌∷◌, ◌++◌, length, drop, get_or, Result, Ok, Err}
+use Rattle.std.proofs.Common.{◌≡◌, ◌∙◌, ◌⊎◌, refl, inl, inr, sym, subst, arith, ℕ, ◌<◌, ◌+◌, List, [], ◌∷◌, ◌++◌, length, drop, get_or, Result, Ok, Err, IfOk}
 use Rattle.std.proofs.lemmas.List.{drop_more}
 use Rattle.outcome.specs.Outcome.{Outcome, ◌>>=◌, Returns}
 use Rattle.net_core.specs.NetList.{NetList, number_of}
@@ -20,6 +20,40 @@ use Rattle.net_words.specs.declared.word.WordText.{WordText}
 after : {A B : Type 0} (first : Outcome BindFault A) (second : A → Outcome BindFault B) (a : A) (outcome : Result B BindFault) → first (Ok a) → second a outcome → (first >>= second) outcome
 after first second a (Ok b) one two = (a, one, two)
 after first second a (Err e) one two = inr (a, one, two)
+
+-- a fault of a step is one of the whole
+pub step_fails : {X Y A B : Type 0} (view : X → A) (view' : Y → B) (fault : BindFault) (step : Outcome BindFault A) (whole : Outcome BindFault B) → ((e : BindFault) → step (Err e) → whole (Err e)) → FitsBinding view (Err fault) step → FitsBinding view' (Err fault) whole
+step_fails view view' (NoSuchNet word place) step whole through fits = through (NoSuchNet word place) fits
+step_fails view view' (NotInput word place) step whole through fits = through (NotInput word place) fits
+step_fails view view' (NotLatch word place) step whole through fits = through (NotLatch word place) fits
+step_fails view view' (NetTwice n) step whole through fits = through (NetTwice n) fits
+step_fails view view' (FeedNotFree line) step whole through fits = through (FeedNotFree line) fits
+step_fails view view' (Uncovered n) step whole through fits = through (Uncovered n) fits
+step_fails view view' (UnknownStart n) step whole through fits = through (UnknownStart n) fits
+step_fails view view' OutOfMemory step whole through fits = tt
+
+-- a place of a word without a net
+pub nets_fail : (net : NetList) (word : ℕ) (role : Role) (taken before : List ℕ) (names : List (List ℕ)) (i : ℕ) (d name : List ℕ) (e : BindFault) → i < length names → length before ≡ i → name ≡ get_or names i d → Err e ≡ place_net net word i taken role (number_of net name) → NetsOf net word role taken before (drop i names) (Err e)
+nets_fail net word role taken before names i d name e less long is fails =
+    let P : List (List ℕ) → Type 0 = λ xs. NetsOf net word role taken before xs (Err e) in
+    let S : ℕ → Type 0 = λ j. Err e ≡ place_net net word j taken role (number_of net name) in
+    let T : List ℕ → Type 0 = λ x. NetsOf net word role taken before (x ∷ drop (i + 1) names) (Err e) in
+    subst P (sym (drop_more names i d less)) (subst T is (inl (subst S (sym long) fails)))
+
+-- a word with such a place
+pub words_fail : (net : NetList) (taken : List ℕ) (before : List BoundWord) (words : List WordText) (i : ℕ) (d word : WordText) (e : BindFault) → i < length words → length before ≡ i → word ≡ get_or words i d → NetsOf net i word.role taken [] (names_with word.role word.nets) (Err e) → BoundOf net taken before (drop i words) (Err e)
+words_fail net taken before words i d word e less long is fails =
+    let P : List WordText → Type 0 = λ xs. BoundOf net taken before xs (Err e) in
+    let S : ℕ → Type 0 = λ j. NetsOf net j word.role taken [] (names_with word.role word.nets) (Err e) in
+    let T : WordText → Type 0 = λ x. BoundOf net taken before (x ∷ drop (i + 1) words) (Err e) in
+    subst P (sym (drop_more words i d less)) (subst T is (inl (subst S (sym long) fails)))
+
+-- a feed without a free net
+pub feeds_fail : (net : NetList) (words : List BoundWord) (before : List Feed) (feeds : List FeedText) (i : ℕ) (d feed : FeedText) (e : BindFault) → i < length feeds → feed ≡ get_or feeds i d → Err e ≡ free_net net words feed.line (number_of net feed.net) → FeedsOf net words before (drop i feeds) (Err e)
+feeds_fail net words before feeds i d feed e less is fails =
+    let P : List FeedText → Type 0 = λ xs. FeedsOf net words before xs (Err e) in
+    let T : FeedText → Type 0 = λ x. FeedsOf net words before (x ∷ drop (i + 1) feeds) (Err e) in
+    subst P (sym (drop_more feeds i d less)) (subst T is (inl fails))
 
 -- one more net of a word
 pub nets_step : (net : NetList) (word : ℕ) (role : Role) (taken taken' before new : List ℕ) (names : List (List ℕ)) (i : ℕ) (d name : List ℕ) (n : ℕ) (outcome : Result (List ℕ × List ℕ) BindFault) → i < length names → length before ≡ i → name ≡ get_or names i d → Ok n ≡ place_net net word i taken role (number_of net name) → taken' ≡ taken_with role n taken → new ≡ before ++ n ∷ [] → NetsOf net word role taken' new (drop (i + 1) names) outcome → NetsOf net word role taken before (drop i names) outcome
@@ -88,3 +122,8 @@ started_fails net words feeds bound taken fed (FeedNotFree line) ok is_fed cover
 started_fails net words feeds bound taken fed (Uncovered n) ok is_fed covered fits = inr ((bound, taken), ok, inr (fed, is_fed, inr (tt, covered, inl fits)))
 started_fails net words feeds bound taken fed (UnknownStart n) ok is_fed covered fits = inr ((bound, taken), ok, inr (fed, is_fed, inr (tt, covered, inl fits)))
 started_fails net words feeds bound taken fed OutOfMemory ok is_fed covered fits = tt
+
+-- what is bound, where anything is
+pub if_bound : (result : Result Binding BindFault) (outcome : Outcome BindFault Binding) (P : Binding → Type 0) → ((bound : Binding) → outcome (Ok bound) → P bound) → FitsBinding {X = Binding} {A = Binding} (λ b. b) result outcome → IfOk result P
+if_bound (Ok bound) outcome P all fits = all bound fits
+if_bound (Err fault) outcome P all fits = tt

@@ -86,20 +86,43 @@ pub fn bind(
     ensures one_cycle { IfOk result (λ bound. IsFlat net.now bound → IsOneCycle net.now bound) }
     ensures sound { IsSound net.now }
 {
-    let k = bits_of(words);
     let held = net.latches();
     let inputs = input_marks(alloc, net)?;
     let latches = latch_marks(alloc, net)?;
     let mut taken = Vec::new(alloc);
-    let bound = match bind_words(alloc, k, words, net, &inputs, &latches, &mut taken) {
+    bind_marked(
+        alloc, words, feeds, net, held, &inputs, &latches, &mut taken,
+    )
+}
+
+// The words and feeds with their nets, where these are the marks of the primary inputs and of the outputs of latches.
+fn bind_marked(
+    alloc: Global,
+    words: &[WordText],
+    feeds: &[FeedText],
+    net: &Net,
+    held: &[Latch],
+    inputs: &[bool],
+    latches: &[bool],
+    taken: &mut Vec<u32>,
+) -> Result<Bound, BindFault>
+    requires words { (k : ℕ) × AreWords k words.now × AreFeeds k (map (λ word. word.role) words.now) feeds.now }
+    requires held { held.now ≡ net.now.latches }
+    requires inputs { AreMarks (nets_of net.now) (stands_in net.now.inputs) inputs.now }
+    requires latches { AreMarks (nets_of net.now) (is_latch net.now) latches.now }
+    requires taken { taken.old.items ≡ [] }
+    ensures { FitsBinding (λ bound. bound) result (BindingOf net.now words.now feeds.now) }
+{
+    let k = bits_of(words);
+    let bound = match bind_words(alloc, k, words, net, inputs, latches, taken) {
         Ok(bound) => bound,
         Err(fault) => return Err(fault),
     };
-    let fed = match bind_feeds(alloc, feeds, net, &bound, &inputs) {
+    let fed = match bind_feeds(alloc, feeds, net, &bound, inputs) {
         Ok(fed) => fed,
         Err(fault) => return Err(fault),
     };
-    match check_covered(alloc, net, &bound, &fed, &inputs) {
+    match check_covered(alloc, net, &bound, &fed, inputs) {
         Ok(()) => {}
         Err(fault) => return Err(fault),
     }
@@ -142,7 +165,10 @@ fn bind_words(
 {
     let mut bound = Vec::new(alloc);
     for (i, word) in words.iter().enumerate() {
-        let nets = bind_word(alloc, i as u32, word, net, inputs, latches, taken)?;
+        let nets = match bind_word(alloc, i as u32, word, net, inputs, latches, taken) {
+            Ok(nets) => nets,
+            Err(fault) => return Err(fault),
+        };
         bound.push(BoundWord {
             name: Name::new(alloc, word.name.as_str())?,
             role: word.role,
@@ -201,7 +227,10 @@ fn bind_places(
     let mut nets = Vec::new(alloc);
     for (i, name) in names.iter().enumerate() {
         let text = name.as_str();
-        let found = bind_place(number, i as u32, role, text, net, inputs, latches, taken)?;
+        let found = match bind_place(number, i as u32, role, text, net, inputs, latches, taken) {
+            Ok(found) => found,
+            Err(fault) => return Err(fault),
+        };
         nets.push(found)?;
     }
     Ok(nets)
@@ -282,8 +311,27 @@ fn check_covered(
     let held = word_marks(alloc, net, words, Role::Input)?;
     let fed = fed_marks(alloc, net, feeds)?;
     let used = used_marks(alloc, net, words)?;
+    check_marked(net, words, feeds, inputs, &held, &fed, &used)
+}
+
+// Refuses the least net that is uncovered by these marks.
+fn check_marked(
+    net: &Net,
+    words: &[BoundWord],
+    feeds: &[Feed],
+    inputs: &[bool],
+    held: &[bool],
+    fed: &[bool],
+    used: &[bool],
+) -> Result<(), BindFault>
+    requires inputs { AreMarks (nets_of net.now) (stands_in net.now.inputs) inputs.now }
+    requires held { AreMarks (nets_of net.now) (is_in_word Input words.now) held.now }
+    requires fed { AreMarks (nets_of net.now) (is_fed feeds.now) fed.now }
+    requires used { AreMarks (nets_of net.now) (is_used net.now words.now) used.now }
+    ensures { FitsBinding (λ u. tt) result (IsCovered net.now words.now feeds.now) }
+{
     for number in 0..net.nets() {
-        if is_uncovered(net, words, feeds, inputs, &held, &fed, &used, number) {
+        if is_uncovered(net, words, feeds, inputs, held, fed, used, number) {
             return Err(BindFault::Uncovered { net: number });
         }
     }

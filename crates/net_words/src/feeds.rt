@@ -29,7 +29,10 @@ pub fn bind_feeds(
     let held = word_marks(alloc, net, words, Role::Input)?;
     let mut bound = Vec::new(alloc);
     for feed in feeds {
-        let number = feed_net(feed, net, words, inputs, &held)?;
+        let number = match feed_net(feed, net, words, inputs, &held) {
+            Ok(number) => number,
+            Err(fault) => return Err(fault),
+        };
         bound.push(bound_feed(feed, number))?;
     }
     Ok(bound)
