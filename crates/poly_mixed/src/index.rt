@@ -68,15 +68,16 @@ impl Index {
         self.lists.of(bit)
     }
 
-    // Puts a monomial into an empty slot. After running out of memory the index is not used again.
-    pub(crate) fn put(&mut self, mono: Mono) -> Result<usize, AllocError>
+    // Puts the same monomial anew into an empty slot. After running out of memory the index is not used again.
+    pub(crate) fn put(&mut self, mono: &Mono) -> Result<usize, AllocError>
         ensures empty { IfOk result (λ slot. slot_at self.old slot ≡ None) }
-        ensures holds { IfOk result (λ slot. Changes self.old self.new slot (Some mono)) }
+        ensures holds { IfOk result (λ slot. Changes self.old self.new slot (Some mono.now)) }
     {
+        let copy = mono.copied()?;
         self.slots.reserve(1)?;
         let slot = self.slots.vacant_key();
-        match self.lists.put(mono.bits(), slot) {
-            Ok(()) => Ok(self.slots.insert_reserved(mono)),
+        match self.lists.put(copy.bits(), slot) {
+            Ok(()) => Ok(self.slots.insert_reserved(copy)),
             Err(fault) => {
                 self.slots.clear();
                 self.lists = Lists::new(self.alloc);

@@ -158,7 +158,7 @@ impl Poly {
         let k = field.k();
         let table = field.times(c);
         for (n, place) in &other.map {
-            let product = product_by(field, c, &table, place.coefficient);
+            let product = field.by(&table, place.coefficient);
             self.add_term(mono.times(n, k)?, product)?;
         }
         Ok(())
@@ -303,17 +303,6 @@ impl Poly {
     }
 }
 
-// The product of the element that a table is of and another element.
-fn product_by<F: Field>(field: &F, _c: u64, table: &F::Times, d: u64) -> u64
-    requires c { IsElement (F.degree field.now) _c }
-    requires table { F.is_table field.now table.now _c }
-    requires d { IsElement (F.degree field.now) d }
-    ensures product { result ≡ F.product field.now _c d }
-    ensures element { result < 2 ^ F.degree field.now }
-{
-    field.by(table, d)
-}
-
 // Adds a term to a map of monomials in slots; the sum of two coefficients that is 0 leaves no term.
 fn add_to(
     map: &mut BTreeMap<Mono, Place>,
@@ -329,7 +318,7 @@ fn add_to(
 {
     match map.entry(mono)? {
         Entry::Vacant(entry) => {
-            let slot = index.put(entry.key().copied()?)?;
+            let slot = index.put(entry.key())?;
             entry.insert(Place {
                 coefficient: c,
                 slot,

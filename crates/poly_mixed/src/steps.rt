@@ -33,7 +33,9 @@ pub struct NoSteps;
 impl Steps for NoSteps {
     ghost steps = { λ _. None };
 
-    fn tells(&self) -> bool {
+    fn tells(&self) -> bool
+        ensures { IsFalse result }
+    {
         false
     }
 

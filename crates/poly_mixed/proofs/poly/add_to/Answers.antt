@@ -24,7 +24,7 @@ returns-in_ok-slot-in-Vacant-clause-indexed c =
     let writes = c.in_ok-entry.ensures.update.1 place in
     let near = c.in_ok-entry.ensures.same_key in
     let equal = rw (c.in-Vacant.is) at near in
-    let whose : c.in_ok-copied-in-Vacant.field-0 ≡ c.args.mono = c.in_ok-copied-in-Vacant.ensures ∙ c.key.ensures ∙ sym (text_cmp-same c.args.mono _ equal) in
+    let whose : c.key.result.now ≡ c.args.mono = c.key.ensures ∙ sym (text_cmp-same c.args.mono _ equal) in
     let P : Monomial → Type 0 = λ m. Changes c.args.index.now c.put.new.self c.in_ok-slot-in-Vacant.slot (Some m) in
     new_indexed c.args.map.now.entries _ c.args.index.now c.args.mono c.args.c c.requires.indexed c.put.new.self place c.requires.nonzero c.requires.rising refl absent c.in_ok-slot-in-Vacant.ensures.empty (subst P whose c.in_ok-slot-in-Vacant.ensures.holds) (grind (arith, writes))
 

@@ -1,10 +1,21 @@
 use Rattle.poly_mixed.proofs.FieldLaws.{field_of}
-use Rattle.std.proofs.Common.{◌∙◌, ap}
+use Rattle.std.proofs.Common.{◌∙◌, ap, ◌≢◌}
 use Rattle.std.proofs.lemmas.Map.Iter.{rest_more, rest_all}
 use Rattle.std.specs.Map.Iter.{deref_pair}
+use Rattle.poly_mixed.specs.Polynomial.{IsTerm}
 use Rattle.poly_mixed.specs.private.Indexed.{terms_in}
 use Rattle.poly_mixed.proofs.ProductLemmas.{outer_turn, no_terms_product}
+use Rattle.poly_mixed.proofs.TermLemmas.{first_of}
 use Rattle.poly_mixed.proofs.poly.Poly.mul.Goals as goal
+
+pub add_product-requires-clause-term : goal.add_product-requires-clause-term
+add_product-requires-clause-term g c =
+    let next = rest_more deref_pair _ _ _ _ c.in-Some.is c.next.ensures.steps in
+    let rest = terms_in c.loop-mono.mono-iterator in
+    let later = terms_in c.next.new.self in (
+      (first_of (IsTerm (g.F.Ring.degree c.args.field.now)) rest later (c.in-Some.mono.now, c.in-Some.place.now.coefficient) (ap terms_in next) c.loop-mono.invariant.terms).0,
+      (first_of (λ t. t.1 ≢ 0) rest later (c.in-Some.mono.now, c.in-Some.place.now.coefficient) (ap terms_in next) c.loop-mono.invariant.nonzero).0,
+    )
 
 pub loop-mono-preserved : goal.loop-mono-preserved
 loop-mono-preserved g c =
