@@ -120,9 +120,6 @@ constant_taken k old new taken all = elim (k == 0) as (λ b. map term_of (cond b
 pub constant_lacks : (k rank : ℕ) (es : List (CutKey × ℕ)) → LacksBit rank (map term_of es) → LacksBit rank (map term_of (with_constant k es))
 constant_lacks k rank es lacks = elim (k == 0) as (λ b. LacksBit rank (map term_of (cond b es ((no_bits, k) ∷ es)))) [ true ↦ lacks | false ↦ (refl, lacks) ]
 
-pub constant_first : (k : ℕ) (es : List (CutKey × ℕ)) → plus text_cmp (with_coefficient (of_bits []) k []) (map term_of es) ≡ plus text_cmp [] (map term_of (with_constant k es))
-constant_first k es = elim (k == 0) as (λ b. plus text_cmp (cond b [] ((of_bits [], k) ∷ [])) (map term_of es) ≡ plus text_cmp [] (map term_of (cond b es ((no_bits, k) ∷ es)))) [ true ↦ refl | false ↦ refl ]
-
 -- after running out of memory the entries are as they were, or there are none
 pub kept_entries : (places : List ℕ) (old new : List (CutKey × ℕ)) → AreBitEntries places old → (new ≡ old) ⊎ (new ≡ []) → AreBitEntries places new
 kept_entries places old new are (inl same) = let P : List (CutKey × ℕ) → Type 0 = AreBitEntries places in subst P (sym same) are

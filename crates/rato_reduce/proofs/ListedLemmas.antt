@@ -7,6 +7,7 @@ use Rattle.std.specs.List.{AllAdjacentBelow, AllByRecursion, swap}
 use Rattle.std.specs.List.Sorted.{IsPermutation, IsStrictlySortedBy}
 use Rattle.std.specs.Map.{keys_of}
 use Rattle.std.specs.Ordering.{nat_cmp}
+use Rattle.std.proofs.lemmas.List.{append_assoc}
 use Rattle.std.proofs.lemmas.List.Elements.{All-from_recursion, recursion_from_All}
 use Rattle.std.proofs.lemmas.List.Sorted.{All-permutation, IsPermutation-keeps}
 use Rattle.std.proofs.lemmas.Option.{slice_get-get_or}
@@ -103,3 +104,8 @@ constant_listed k es first ts constant listed = listed ∙ ap (λ (us : Terms). 
 
 pub constant_bit_terms : (places : List ℕ) (k : ℕ) (es : List (CutKey × ℕ)) → AreBitEntries places es → AllByRecursion IsBitTerm (map term_of (with_constant k es))
 constant_bit_terms places k es are = entry_terms places (with_constant k es) (constant_entries places k es are).each
+
+-- one more term is put at the end
+pub step_line : (old new goal : Terms) (t : Monomial × ℕ) (rest after : Terms) → rest ≡ t ∷ after → old ++ rest ≡ goal → new ≡ old ++ t ∷ [] → new ++ after ≡ goal
+step_line old new goal t rest after next so_far step =
+    ap (λ (us : Terms). us ++ after) step ∙ append_assoc old (t ∷ []) after ∙ ap (λ (us : Terms). old ++ us) (sym next) ∙ so_far

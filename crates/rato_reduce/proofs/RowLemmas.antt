@@ -162,9 +162,6 @@ moved_rows ranks old mid new to from c has first second =
       inside = λ all. adds_inside ranks mid new to c second (adds_inside ranks old mid from c first all);
     }
 
-pub not_added : (ranks : List ℕ) (old : List Row) → AreAddedUp ranks old old
-not_added ranks old = record { sums = λ q. refl; each = λ places level all. all; inside = λ all. all }
-
 pub added_more : (ranks : List ℕ) (old mid new : List Row) → AreAddedUp ranks old mid → AreAddedUp ranks mid new → AreAddedUp ranks old new
 added_more ranks old mid new one two = record {
   sums = λ q. two.sums q ∙ one.sums q;

@@ -1,5 +1,5 @@
 -- One turn of the elimination, for a net list with bound words.
-use Rattle.std.proofs.Common.{◌≡◌, ℕ, suc, ◌<◌, ◌+◌, ◌-◌, List, Some, length, subst, ◌∙◌, arith}
+use Rattle.std.proofs.Common.{◌≡◌, ℕ, suc, ◌<◌, ◌≤◌, ◌+◌, ◌-◌, ◌^◌, List, Some, length, subst, ◌∙◌, arith}
 use Rattle.std.specs.Prelude.{slice_get}
 use Rattle.std.proofs.lemmas.Option.{slice_get_within}
 use Rattle.net_core.specs.GateValue.{GateValue}
@@ -30,9 +30,17 @@ use Rattle.stage_model.specs.Variables.{rank_in}
 use Rattle.stage_model.specs.CutSteps.{AreStepsAt}
 use Rattle.rato_reduce.proofs.RecordedLemmas.{IsRecordedBy, one_recorded}
 use Rattle.std.proofs.Common.{Option}
+use Rattle.lists.specs.Limits.{most_nets}
 use Rattle.lists.specs.Lists.{Has, times}
 use Rattle.lists.specs.laws.HasLaws.{times_some}
 use Rattle.lists.specs.laws.ReadLaws.{got_reversed}
+
+-- there are few turns
+pub few_turns : (t long gates latches : ℕ) → t < long → long ≡ gates → gates + latches ≤ most_nets → t < 2 ^ 32
+few_turns t long gates latches less same few = omega arith
+
+pub few_turns_after : (t long gates latches : ℕ) → t < long → long ≡ gates → gates + latches ≤ most_nets → t + 1 < 2 ^ 32
+few_turns_after t long gates latches less same few = omega arith
 
 -- a position in the order is that of a gate
 pub position_inside : (net : NetList) (order : List ℕ) (t position : ℕ) → IsElimination net order → slice_get order t ≡ Some position → position < length net.gates

@@ -5,3 +5,4 @@ pub mod EntryList
 pub mod Pairs
 pub mod Rows
 pub mod LowBits
+pub mod FirstCut

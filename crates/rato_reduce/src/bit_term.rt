@@ -1,5 +1,5 @@
 //! Terms without words.
-ghost use Rattle.std.specs.Prelude.{◌≡◌, [], IfOk};
+ghost use Rattle.std.specs.Prelude.{◌≡◌, OnOk};
 ghost use Rattle.std.specs.List.{AllByRecursion};
 ghost use Rattle.poly_mixed.specs.Monomial.{text_cmp};
 ghost use Rattle.poly_mixed.specs.Sum.{plus};
@@ -51,15 +51,14 @@ impl BitTerm {
     }
 }
 
-/// The polynomial of these terms.
-pub fn poly_of(alloc: Global, terms: &[BitTerm]) -> Result<Poly, AllocError>
+/// Adds terms to a polynomial.
+pub fn add_terms(alloc: Global, sum: &mut Poly, terms: &[BitTerm]) -> Result<(), AllocError>
     requires { AllByRecursion IsBitTerm terms.now }
-    ensures { IfOk result (λ q. q.terms ≡ plus text_cmp [] terms.now) }
+    ensures { OnOk result (sum.new.terms ≡ plus text_cmp sum.old.terms terms.now) }
 {
-    let mut sum = Poly::zero(alloc);
     for term in terms {
         let mono = Mono::new(alloc, term.bits().as_slice(), &[0; 8])?;
         sum.add_term(mono, term.coefficient())?;
     }
-    Ok(sum)
+    Ok(())
 }

@@ -7,7 +7,7 @@ ghost use Rattle.std.specs.Ordering.{nat_cmp};
 ghost use Rattle.poly_mixed.specs.Cofactor.{cofactors, lacking};
 ghost use Rattle.poly_mixed.specs.Monomial.{text_cmp};
 ghost use Rattle.poly_mixed.specs.Sum.{plus, plus_term};
-ghost use Rattle.rato_reduce.specs.private.Buckets.{joined, level_at, AreOut, AreUpTo, HasTermAt, AreTaken, IsCounted, IsMerged, IsMergedAt, StayLevelled};
+ghost use Rattle.rato_reduce.specs.private.Buckets.{joined, AreOut, AreUpTo, HasTermAt, AreTaken, IsCounted, IsMerged, IsMergedAt, StayLevelled};
 ghost use Rattle.rato_reduce.specs.private.CutTerms.{of_bits, IsBitTerm};
 ghost use Rattle.rato_reduce.specs.private.Rows.{product_of, term_bits};
 
@@ -91,7 +91,10 @@ impl Buckets {
     pub fn level_for(&self, bits: &[u32]) -> usize
         ensures { AreUpTo self.now.places result bits.now }
     {
-        level(self.places.as_slice(), bits)
+        let places = self.places.as_slice();
+        places
+            .len()
+            .saturating_sub(first_place(places, bits) as usize)
     }
 
     /// The index of the first bit that is not below a rank, and a level up to which those before it are. Which index it is decides
@@ -100,7 +103,9 @@ impl Buckets {
         ensures within { result.0 ≤ length bits.now }
         ensures up_to { AreUpTo self.now.places result.1 (take result.0 bits.now) }
     {
-        level_before(self.places.as_slice(), bits, rank)
+        let places = self.places.as_slice();
+        let (at, first) = first_below(places, bits, rank);
+        (at, places.len().saturating_sub(first as usize))
     }
 
     /// Adds the product of a term of rising bits and of a set of bits, all up to a level. After running out of memory it is not
@@ -126,7 +131,8 @@ impl Buckets {
         ensures each { OnOk result (AllByRecursion IsBitTerm part.new) }
     {
         part.clear();
-        let level = level_of(self.places.as_slice(), rank);
+        let places = self.places.as_slice();
+        let level = places.len().saturating_sub(place_of(places, rank) as usize);
         take_last(
             self.alloc,
             &mut self.list,
@@ -232,31 +238,6 @@ fn keep(spare: &mut Bucket, bucket: Bucket) {
     if bucket.is_small() {
         *spare = bucket;
     }
-}
-
-// A level up to which these bits are.
-fn level(places: &[u32], bits: &[u32]) -> usize
-    ensures { AreUpTo places.now result bits.now }
-{
-    places
-        .len()
-        .saturating_sub(first_place(places, bits) as usize)
-}
-
-// The same of those before the first that is not below a rank, and its index.
-fn level_before(places: &[u32], bits: &[u32], rank: u32) -> (usize, usize)
-    ensures within { result.0 ≤ length bits.now }
-    ensures up_to { AreUpTo places.now result.1 (take result.0 bits.now) }
-{
-    let (at, first) = first_below(places, bits, rank);
-    (at, places.len().saturating_sub(first as usize))
-}
-
-// The level of a bit.
-fn level_of(places: &[u32], rank: u32) -> usize
-    ensures { result ≡ level_at places.now rank }
-{
-    places.len().saturating_sub(place_of(places, rank) as usize)
 }
 
 // The count of more things.

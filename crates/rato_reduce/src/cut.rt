@@ -6,16 +6,15 @@ ghost use Rattle.std.specs.Ordering.{nat_cmp};
 ghost use Rattle.poly_mixed.specs.Cofactor.{cofactors, lacking, LacksBit};
 ghost use Rattle.poly_mixed.specs.Monomial.{text_cmp};
 ghost use Rattle.poly_mixed.specs.Polynomial.{IsReduced, IsTerm};
-ghost use Rattle.poly_mixed.specs.Sum.{plus, plus_term, with_coefficient};
+ghost use Rattle.poly_mixed.specs.Sum.{plus, plus_term};
 ghost use Rattle.poly_mixed.specs.Product.{union, with_rank};
 ghost use Rattle.rato_reduce.specs.private.CutTerms.{of_bits, term_of, ends_up_to, products, AreBitEntries, HasSetsPutIn, IsBitTerm, IsTaken};
 ghost use Rattle.rato_reduce.specs.Monomials.{monomials};
 
 use crate::bit_term::BitTerm;
-use crate::buckets::Buckets;
 use crate::entries::Entries;
 use crate::key::{Key, place_of};
-use crate::listed::{push_bits, sum_in_order};
+use crate::listed::{constant_terms, sum_in_order};
 use crate::monomials::has_place;
 use crate::ranks::Ranks;
 use poly_mixed::Term;
@@ -227,17 +226,7 @@ impl Cut {
     {
         let mut terms = constant_terms(self.alloc, self.constant)?;
         self.map.push_terms(self.alloc, &mut terms)?;
-        let sum = sum_in_order(self.alloc, terms)?;
-        Ok(sum)
-    }
-
-    /// The same polynomial in buckets.
-    pub fn into_buckets(self) -> Result<Buckets, AllocError>
-        ensures { IfOk result (λ q. q.terms ≡ self.terms) }
-    {
-        let mut sum = constant_buckets(self.alloc, self.places, self.constant)?;
-        self.map.put_into(&mut sum)?;
-        Ok(sum)
+        sum_in_order(self.alloc, terms)
     }
 }
 
@@ -246,28 +235,6 @@ fn chosen(c: u64, added: bool) -> u64
     ensures { result ≡ (if added then c else 0) }
 {
     if added { c } else { 0 }
-}
-
-// The term without bits in a list, which is empty where the coefficient is 0.
-fn constant_terms(alloc: Global, c: u64) -> Result<Vec<Term>, AllocError>
-    ensures { IfOk result (λ v. v.items ≡ with_coefficient (of_bits []) c []) }
-{
-    let mut terms = Vec::new(alloc);
-    if c != 0 {
-        push_bits(alloc, &mut terms, &[], c)?;
-    }
-    Ok(terms)
-}
-
-// The same in buckets.
-fn constant_buckets(alloc: Global, places: Vec<u32>, c: u64) -> Result<Buckets, AllocError>
-    ensures { IfOk result (λ q. q.terms ≡ with_coefficient (of_bits []) c []) }
-{
-    let mut sum = Buckets::new(alloc, places);
-    if c != 0 {
-        sum.add(&[], 0, c)?;
-    }
-    Ok(sum)
 }
 
 // Puts the term of an entry into the part, without the bit, if it has the bit, and else into the others.

@@ -5,6 +5,7 @@ ghost use Rattle.lists.specs.Lists.{Has};
 ghost use Rattle.net_core.specs.Sound.{IsSound};
 ghost use Rattle.poly_mixed.specs.Monomial.{text_cmp};
 ghost use Rattle.poly_mixed.specs.Polynomial.{IsReduced, IsTerm};
+ghost use Rattle.poly_mixed.specs.Product.{with_rank};
 ghost use Rattle.poly_mixed.specs.Steps.{Tells};
 ghost use Rattle.poly_mixed.specs.Sum.{plus};
 ghost use Rattle.poly_mixed.specs.declared.steps.Generator.TheVariants.{Net};
@@ -14,7 +15,7 @@ ghost use Rattle.rato_reduce.specs.GatePoint.{HasGatePutIn, AddsWhereGate};
 ghost use Rattle.rato_reduce.specs.Monomials.{monomials};
 ghost use Rattle.rato_reduce.specs.Recorded.{IsGateRecorded};
 
-use crate::bit_term::{BitTerm, poly_of};
+use crate::bit_term::{BitTerm, add_terms};
 use crate::cut::Cut;
 use crate::first_cut::rank;
 use crate::line::put_line;
@@ -23,15 +24,11 @@ use crate::ranks::Ranks;
 use gf_field::Field;
 use net_core::Gate;
 use net_words::Combinational;
-use poly_mixed::{Generator, Steps, exclusive_form};
+use poly_mixed::{Generator, Poly, Steps, exclusive_form};
 use std::alloc::{AllocError, Global};
 
-/// The ranks of a gate's inputs.
-pub fn input_ranks(
-    alloc: Global,
-    circuit: &Combinational,
-    gate: &Gate,
-) -> Result<Vec<u32>, AllocError>
+// The ranks of a gate's inputs.
+fn input_ranks(alloc: Global, circuit: &Combinational, gate: &Gate) -> Result<Vec<u32>, AllocError>
     requires sound { IsSound circuit.now.net }
     requires gate { Has circuit.now.net.gates gate.now }
     ensures { IfOk result (λ list. list.items ≡ ranks_of_inputs circuit.now gate.now) }
@@ -43,6 +40,21 @@ pub fn input_ranks(
     Ok(list)
 }
 
+/// The sets of bits of the form of a table at the inputs of a gate.
+pub fn input_sets(
+    alloc: Global,
+    circuit: &Combinational,
+    gate: &Gate,
+    form: u64,
+) -> Result<Vec<Ranks>, AllocError>
+    requires sound { IsSound circuit.now.net }
+    requires gate { Has circuit.now.net.gates gate.now }
+    ensures { IfOk result (λ sets. sets.items ≡ monomials form [] (ranks_of_inputs circuit.now gate.now) 0 1) }
+{
+    let ranks = input_ranks(alloc, circuit, gate)?;
+    monomials_of(alloc, form, &ranks)
+}
+
 // Adds the products of each of the terms and of the form of a table of one bit.
 fn add_all_lines(cut: &mut Cut, part: &[BitTerm], form: u64, rank: u32) -> Result<(), AllocError>
     requires { AllByRecursion IsBitTerm part.now }
@@ -50,6 +62,25 @@ fn add_all_lines(cut: &mut Cut, part: &[BitTerm], form: u64, rank: u32) -> Resul
 {
     for term in part {
         cut.add_line(term, form, rank)?;
+    }
+    Ok(())
+}
+
+// Adds the products of each of the terms and of the form of a table of two bits. `both` is the product of these.
+fn add_each_pair(
+    cut: &mut Cut,
+    part: &[BitTerm],
+    form: u64,
+    first: u32,
+    second: u32,
+    both: &Ranks,
+) -> Result<(), AllocError>
+    requires part { AllByRecursion IsBitTerm part.now }
+    requires both { both.now ≡ with_rank (first ∷ []) second }
+    ensures { OnOk result (cut.new.terms ≡ plus text_cmp cut.old.terms (all_products part.now (monomials form [] (first ∷ second ∷ []) 0 1))) }
+{
+    for term in part {
+        cut.add_pair(term, form, first, second, both)?;
     }
     Ok(())
 }
@@ -66,12 +97,8 @@ fn add_all_pairs(
     requires { AllByRecursion IsBitTerm part.now }
     ensures { OnOk result (cut.new.terms ≡ plus text_cmp cut.old.terms (all_products part.now (monomials form [] (first ∷ second ∷ []) 0 1))) }
 {
-    let one = Ranks::none(alloc).with(first)?;
-    let both = one.with(second)?;
-    for term in part {
-        cut.add_pair(term, form, first, second, &both)?;
-    }
-    Ok(())
+    let both = Ranks::of_two(alloc, first, second)?;
+    add_each_pair(cut, part, form, first, second, &both)
 }
 
 // Adds the products of the terms and of the form of a table at the inputs of a gate. Forms of one bit and of two make no list
@@ -99,8 +126,7 @@ fn add_form(
         let second = rank(circuit, inputs[1]);
         return add_all_pairs(alloc, cut, part, form, first, second);
     }
-    let ranks = input_ranks(alloc, circuit, gate)?;
-    let sets = monomials_of(alloc, form, &ranks)?;
+    let sets = input_sets(alloc, circuit, gate, form)?;
     add_all_products(cut, part, &sets)
 }
 
@@ -148,7 +174,8 @@ fn tell<T: Steps>(
     if !steps.tells() {
         return Ok(());
     }
-    let cofactor = poly_of(alloc, part)?;
+    let mut cofactor = Poly::zero(alloc);
+    add_terms(alloc, &mut cofactor, part)?;
     steps.step(Generator::Net(net), &cofactor)
 }
 

@@ -2,16 +2,13 @@
 ghost use Rattle.std.specs.Prelude.{◌≡◌, ◌≢◌, ◌⊎◌, ◌<◌, ◌^◌, ◌++◌, ◌∷◌, [], length, false, nat_le, IfSome, IfNone, None, OnOk, OnErr, map as each_of};
 ghost use Rattle.std.specs.List.{AllByRecursion};
 ghost use Rattle.std.specs.Option.{option_map_or};
-ghost use Rattle.poly_mixed.specs.Monomial.{text_cmp};
-ghost use Rattle.poly_mixed.specs.Sum.{plus, plus_term};
+ghost use Rattle.poly_mixed.specs.Sum.{plus_term};
 ghost use Rattle.rato_reduce.specs.private.CutKey.{key_cmp};
 ghost use Rattle.rato_reduce.specs.private.CutTerms.{ends_up_to, term_of, IsBitTerm};
 ghost use Rattle.rato_reduce.specs.private.EntryList.{only_or, IsExchanged, IsOtherBit};
 
-use crate::buckets::Buckets;
 use crate::key::Key;
 use crate::listed::push_bits;
-use crate::row::hash_of_all;
 use poly_mixed::Term;
 use std::alloc::{AllocError, Global};
 use std::collections::BTreeMap;
@@ -107,30 +104,6 @@ impl Entries {
         }
         Ok(())
     }
-
-    /// Adds the terms of all to buckets. After running out of memory they are not used again.
-    pub fn put_into(&self, sum: &mut Buckets) -> Result<(), AllocError>
-        requires { AllByRecursion IsBitTerm (each_of term_of self.now.entries) }
-        ensures { OnOk result (sum.new.terms ≡ plus text_cmp sum.old.terms (each_of term_of self.now.entries)) }
-    {
-        if let Some((key, c)) = &self.one {
-            return put_term(sum, key, *c);
-        }
-        for (key, c) in &self.map {
-            put_term(sum, key, *c)?;
-        }
-        Ok(())
-    }
-}
-
-// Adds the term of an entry to buckets.
-fn put_term(sum: &mut Buckets, key: &Key, c: u64) -> Result<(), AllocError>
-    requires { IsBitTerm (term_of (key.now, c)) }
-    ensures { OnOk result (sum.new.terms ≡ plus text_cmp sum.old.terms (term_of (key.now, c) ∷ [])) }
-{
-    let bits = key.bits().as_slice();
-    sum.add(bits, hash_of_all(bits), c)?;
-    Ok(())
 }
 
 // Puts the term of an entry at the end of a list.

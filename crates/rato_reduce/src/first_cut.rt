@@ -1,5 +1,5 @@
 //! The output word as a polynomial in the bits of its nets.
-ghost use Rattle.std.specs.Prelude.{◌≡◌, ◌<◌, ℕ, length, IfOk, OnOk};
+ghost use Rattle.std.specs.Prelude.{◌≡◌, ◌<◌, ℕ, [], length, OnOk};
 ghost use Rattle.lists.specs.Lists.{Has};
 ghost use Rattle.gf_basis.specs.BasisParts.{elements_of, IsBasisOver};
 ghost use Rattle.net_core.specs.NetList.{nets};
@@ -7,9 +7,11 @@ ghost use Rattle.net_core.specs.Order.{IsElimination};
 ghost use Rattle.poly_mixed.specs.Polynomial.{IsElement, IsPolynomialOf, IsReduced};
 ghost use Rattle.stage_model.specs.Variables.{rank_in};
 ghost use Rattle.rato_reduce.specs.BoundVariables.{bound_variables, sum_of_ones, AddsWhereBit};
+ghost use Rattle.rato_reduce.specs.private.FirstCut.{IsFirstCut};
 
 use crate::cut::Cut;
 use crate::ranks::Ranks;
+use circuit_model::output_nets;
 use gf_basis::Basis;
 use gf_field::Field;
 use net_words::Combinational;
@@ -59,25 +61,41 @@ fn add_bit<F: Field>(
     cut.add(bits, element)
 }
 
-/// The sum of the basis elements of the bits of these nets, all nets being free. `places` has the place of each rank in
-/// the order of elimination.
-pub fn first_cut<F: Field>(
+// Adds the basis elements of the bits of these nets, all nets being free, to a cut without terms.
+fn first_cut<F: Field>(
     alloc: Global,
     field: &F,
     circuit: &Combinational,
     basis: &Basis,
     list: &[u32],
-    places: Vec<u32>,
-) -> Result<Cut, AllocError>
+    sum: &mut Cut,
+) -> Result<(), AllocError>
+    requires nothing { sum.old.terms ≡ [] }
     requires basis { IsBasisOver (F.degree field.now) (F.product field.now) basis.now }
     requires long { length list.now ≡ F.degree field.now }
     requires inside { (n : ℕ) → Has list.now n → n < nets circuit.now.net }
-    ensures { IfOk result (λ q. IsPolynomialOf (F.degree field.now) (F.product field.now) (sum_of_ones circuit.now (elements_of basis.now) list.now) q.terms) }
+    ensures { OnOk result (IsPolynomialOf (F.degree field.now) (F.product field.now) (sum_of_ones circuit.now (elements_of basis.now) list.now) sum.new.terms) }
 {
-    let mut sum = Cut::zero(alloc, places);
     for place in 0..list.len() {
         let rank = rank(circuit, list[place]);
-        add_bit(alloc, field, &mut sum, basis.element(place as u32), rank)?;
+        add_bit(alloc, field, sum, basis.element(place as u32), rank)?;
     }
-    Ok(sum)
+    Ok(())
+}
+
+/// Adds the output word's element in the bits of its nets, all nets being free, to a cut without terms.
+pub fn add_output<F: Field>(
+    alloc: Global,
+    field: &F,
+    circuit: &Combinational,
+    output: &Basis,
+    cut: &mut Cut,
+) -> Result<(), AllocError>
+    requires bits { circuit.now.binding.k ≡ F.degree field.now }
+    requires basis { IsBasisOver (F.degree field.now) (F.product field.now) output.now }
+    requires nothing { cut.old.terms ≡ [] }
+    ensures { OnOk result (IsFirstCut (F.degree field.now) (F.product field.now) circuit.now (elements_of output.now) cut.new.terms) }
+{
+    let list = output_nets(alloc, circuit.binding())?;
+    first_cut(alloc, field, circuit, output, &list, cut)
 }

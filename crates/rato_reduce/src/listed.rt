@@ -6,7 +6,7 @@ ghost use Rattle.std.specs.Map.{keys_of};
 ghost use Rattle.std.specs.Ordering.{nat_cmp};
 ghost use Rattle.std.specs.declared.cmp.Ordering.TheVariants.{Less};
 ghost use Rattle.poly_mixed.specs.Monomial.{Monomial, text_cmp};
-ghost use Rattle.poly_mixed.specs.Sum.{plus};
+ghost use Rattle.poly_mixed.specs.Sum.{plus, with_coefficient};
 ghost use Rattle.rato_reduce.specs.private.Buckets.{joined};
 ghost use Rattle.rato_reduce.specs.private.CutTerms.{of_bits, IsBitTerm};
 ghost use Rattle.rato_reduce.specs.private.Rows.{lines_of};
@@ -30,6 +30,17 @@ pub fn push_bits(
     let mono = Mono::new(alloc, bits, &[0; 8])?;
     terms.push(Term::new(mono, coefficient))?;
     Ok(())
+}
+
+/// The term without bits in a list, which is empty where the coefficient is 0.
+pub fn constant_terms(alloc: Global, c: u64) -> Result<Vec<Term>, AllocError>
+    ensures { IfOk result (λ v. v.items ≡ with_coefficient (of_bits []) c []) }
+{
+    let mut terms = Vec::new(alloc);
+    if c != 0 {
+        push_bits(alloc, &mut terms, &[], c)?;
+    }
+    Ok(terms)
 }
 
 // Puts the terms of rows at the end of a list.
@@ -68,8 +79,7 @@ pub fn sum_of_lists(alloc: Global, list: &[Bucket]) -> Result<Vec<Term>, AllocEr
     ensures { IfOk result (λ v. v.items ≡ plus text_cmp [] (joined list.now)) }
 {
     let terms = terms_of(alloc, list)?;
-    let sum = sum_in_order(alloc, terms)?;
-    Ok(sum)
+    sum_in_order(alloc, terms)
 }
 
 /// The sum of terms without words, of rising bits and coefficients that are not 0, in the order of a text.
@@ -81,8 +91,7 @@ pub fn sum_in_order(alloc: Global, mut terms: Vec<Term>) -> Result<Vec<Term>, Al
     if are_in_order(terms.as_slice()) {
         return Ok(terms);
     }
-    let sum = added_up(alloc, terms.as_slice())?;
-    Ok(sum)
+    added_up(alloc, terms.as_slice())
 }
 
 // Whether each term stands before the next one in the order of a text; so no two are equal.
@@ -90,7 +99,7 @@ fn are_in_order(terms: &[Term]) -> bool
     ensures { IsTrue result → IsStrictlySortedBy text_cmp (keys_of terms.now) }
 {
     for next in 1..terms.len() {
-        if !is_before(terms, next - 1, next) {
+        if !are_in_order_at(terms, next - 1, next) {
             return false;
         }
     }
@@ -98,7 +107,7 @@ fn are_in_order(terms: &[Term]) -> bool
 }
 
 // Whether the term at an index stands before that at another in the order of a text.
-fn is_before(terms: &[Term], i: usize, next: usize) -> bool
+fn are_in_order_at(terms: &[Term], i: usize, next: usize) -> bool
     requires one { i < length terms.now }
     requires other { next < length terms.now }
     ensures { IsTrue result → (d : Monomial × ℕ) → text_cmp (slice_index_or terms.now i d).0 (slice_index_or terms.now next d).0 ≡ Less }
@@ -122,8 +131,16 @@ fn added_up(alloc: Global, terms: &[Term]) -> Result<Vec<Term>, AllocError>
     ensures { IfOk result (λ v. v.items ≡ plus text_cmp [] terms.now) }
 {
     let mut sum = Poly::zero(alloc);
+    added_to(alloc, &mut sum, terms)
+}
+
+// The sum of a polynomial, which takes terms one after the other, and of these, in the order of a text.
+fn added_to(alloc: Global, sum: &mut Poly, terms: &[Term]) -> Result<Vec<Term>, AllocError>
+    requires { AllByRecursion IsBitTerm terms.now }
+    ensures { IfOk result (λ v. v.items ≡ plus text_cmp sum.old.terms terms.now) }
+{
     for term in terms {
-        add_term(alloc, &mut sum, term)?;
+        add_term(alloc, sum, term)?;
     }
     let list = sum.terms(alloc)?;
     Ok(list)

@@ -24,19 +24,14 @@ fn first_look(table: &[u32], hash: u64) -> usize {
     (hash >> 32) as usize % table.len().saturating_sub(LOOKS).max(1)
 }
 
-// The number that a table has for the row at an index, counted from 1, or 0 where it is too great for a table: that row is not
-// found.
-fn number_of(i: usize) -> u32 {
-    match u32::try_from(i.saturating_add(1)) {
-        Ok(number) => number,
-        Err(_) => 0,
-    }
-}
-
-// Puts the number of a row at a place of a table.
+// Puts the number of the row at an index, counted from 1, at a place of a table, or 0 where it is too great for a table: that row is
+// not found.
 fn note(table: &mut [u32], place: usize, i: usize) {
     if let Some(there) = table.get_mut(place) {
-        *there = number_of(i);
+        *there = match u32::try_from(i.saturating_add(1)) {
+            Ok(number) => number,
+            Err(_) => 0,
+        };
     }
 }
 

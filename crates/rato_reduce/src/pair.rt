@@ -4,7 +4,6 @@ ghost use Rattle.lists.specs.Lists.{Has};
 ghost use Rattle.net_core.specs.Sound.{IsSound};
 ghost use Rattle.rato_reduce.specs.BoundVariables.{ranks_of_inputs};
 ghost use Rattle.rato_reduce.specs.Monomials.{monomials};
-ghost use Rattle.rato_reduce.specs.private.Buckets.{AreUpTo};
 ghost use Rattle.rato_reduce.specs.private.Pairs.{pair_sets, HasLevels};
 
 use crate::buckets::Buckets;
@@ -45,19 +44,12 @@ pub fn greater_of(one: usize, other: usize) -> usize
     if one < other { other } else { one }
 }
 
-// A level up to which a bit is.
-fn rank_level(cut: &Buckets, rank: u32) -> usize
-    ensures { AreUpTo cut.now.places result (rank ∷ []) }
-{
-    cut.level_for(&[rank])
-}
-
 // What the form of a table of one bit has.
 fn line_of(cut: &Buckets, form: u64, by: u32) -> Pair
     ensures levels { HasLevels cut.now.places result }
     ensures sets { pair_sets result ≡ monomials form [] (by ∷ []) 0 1 }
 {
-    let level = rank_level(cut, by);
+    let level = cut.level_for(&[by]);
     let one = has_place(form, 0);
     let low = has_place(form, 1);
     Pair {
@@ -78,8 +70,8 @@ fn pair_of(cut: &Buckets, form: u64, first: u32, second: u32) -> Pair
     ensures levels { HasLevels cut.now.places result }
     ensures sets { pair_sets result ≡ monomials form [] (first ∷ second ∷ []) 0 1 }
 {
-    let first_level = rank_level(cut, first);
-    let second_level = rank_level(cut, second);
+    let first_level = cut.level_for(&[first]);
+    let second_level = cut.level_for(&[second]);
     let level = greater_of(first_level, second_level);
     let one = has_place(form, 0);
     let low = has_place(form, 1);

@@ -31,6 +31,16 @@ impl Ranks {
         }
     }
 
+    /// These two, rising; where they are the same, one.
+    pub fn of_two(alloc: Global, first: u32, second: u32) -> Result<Ranks, AllocError>
+        ensures { IfOk result (λ r. r ≡ with_rank (first ∷ []) second) }
+    {
+        let mut items = SmallVec::new(alloc);
+        add_rank(&mut items, first)?;
+        add_rank(&mut items, second)?;
+        Ok(Ranks { items })
+    }
+
     /// The ranks, as they stand.
     pub fn as_slice(&self) -> &[u32]
         ensures { result.now ≡ self.now }
@@ -86,10 +96,7 @@ impl Ranks {
     {
         let most = self.items.len().saturating_add(other.items.len());
         let mut items = SmallVec::with_capacity(*self.items.allocator(), most)?;
-        items.extend_from_slice(self.items.as_slice())?;
-        for rank in other.items.as_slice() {
-            add_rank(&mut items, *rank)?;
-        }
+        unite(&mut items, self.items.as_slice(), other.items.as_slice())?;
         Ok(Ranks { items })
     }
 
@@ -119,6 +126,19 @@ fn set_first(items: &mut [u32], rank: u32)
     items[0] = rank;
 }
 
+// Adds the ranks of two lists to none, those of the other one by one.
+fn unite(items: &mut SmallVec<u32, 16>, one: &[u32], other: &[u32]) -> Result<(), AllocError>
+    requires { items.old.items ≡ [] }
+    ensures { OnOk result (items.new.items ≡ union one.now other.now) }
+{
+    items.extend_from_slice(one)?;
+    for rank in other {
+        add_rank(items, *rank)?;
+    }
+    Ok(())
+}
+
+// Adds a rank where it belongs, if it is not there.
 fn add_rank(items: &mut SmallVec<u32, 16>, r: u32) -> Result<(), AllocError>
     ensures with { OnOk result (items.new.items ≡ with_rank items.old.items r) }
 {

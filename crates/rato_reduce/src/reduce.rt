@@ -1,21 +1,19 @@
 //! The elimination of all gates.
-ghost use Rattle.std.specs.Prelude.{◌≡◌, ◌<◌, ◌≤◌, length, IfOk, IfErr, OnOk};
+ghost use Rattle.std.specs.Prelude.{◌≡◌, ◌<◌, ◌≤◌, [], length, IfOk, IfErr, OnOk};
 ghost use Rattle.gf_basis.specs.BasisParts.{elements_of, IsBasisOver};
 ghost use Rattle.net_core.specs.Order.{IsElimination};
 ghost use Rattle.stage_model.specs.Cut.{BoundCut};
 ghost use Rattle.stage_model.specs.CircuitListing.{bound_cuts};
 ghost use Rattle.stage_model.specs.Listing.{AreAllWithin, IsRefusal};
 ghost use Rattle.stage_model.specs.Stage.{IsOfStage};
-ghost use Rattle.net_words.specs.BoundTo.{output_bits};
-ghost use Rattle.poly_mixed.specs.Polynomial.{IsPolynomialOf};
-ghost use Rattle.rato_reduce.specs.BoundVariables.{sum_of_ones};
 ghost use Rattle.rato_reduce.specs.Recorded.{AreAllRecorded};
 
+use crate::bit_term::BitTerm;
 use crate::cut::Cut;
 use crate::eliminate::eliminate;
-use crate::first_cut::{first_cut, places};
+use crate::first_cut::{add_output, places};
 use crate::in_buckets::reduce_in_buckets;
-use circuit_model::output_nets;
+use crate::stop::Stop;
 use gf_basis::Basis;
 use gf_field::Field;
 use net_core::{Net, order};
@@ -47,27 +45,37 @@ fn check_size(cut: &Cut, bound: u32, number: u32) -> Result<(), ReduceFault>
     Ok(())
 }
 
-// The first cut, if it is not over the bound.
-fn small_first_cut<F: Field>(
+// The polynomial of the last cut. `cut` is room for each cut, without terms, and `part` for the terms with a net, whatever it holds.
+fn eliminate_all<F: Field, T: Steps>(
     alloc: Global,
     field: &F,
     circuit: &Combinational,
     output: &Basis,
     order: &[u32],
     bound: u32,
-) -> Result<Cut, ReduceFault>
+    cut: &mut Cut,
+    part: &mut Vec<BitTerm>,
+    steps: &mut T,
+) -> Result<Vec<Term>, ReduceFault>
     requires bits { circuit.now.binding.k ≡ F.degree field.now }
     requires basis { IsBasisOver (F.degree field.now) (F.product field.now) output.now }
     requires order { IsElimination circuit.now.net order.now }
-    ensures first { IfOk result (λ q. IsPolynomialOf (F.degree field.now) (F.product field.now) (sum_of_ones circuit.now (elements_of output.now) (output_bits circuit.now.binding.words)) q.terms) }
-    ensures within { IfOk result (λ q. length q.terms ≤ bound) }
+    requires nothing { cut.old.terms ≡ [] }
+    ensures last { IfOk result (λ q. IsOfStage (F.degree field.now) (F.product field.now) (BoundCut circuit.now (elements_of output.now) (length circuit.now.net.gates)) q.items) }
+    ensures within { OnOk result (AreAllWithin (F.degree field.now) (F.product field.now) (bound_cuts circuit.now (elements_of output.now)) bound) }
     ensures fault { IfErr result (IsRefusal (F.degree field.now) (F.product field.now) (bound_cuts circuit.now (elements_of output.now)) bound) }
+    ensures steps { OnOk result (AreAllRecorded (F.degree field.now) (F.product field.now) circuit.now (elements_of output.now) (T.steps steps.old) (T.steps steps.new)) }
 {
-    let list = output_nets(alloc, circuit.binding())?;
-    let places = places(alloc, circuit, order)?;
-    let cut = first_cut(alloc, field, circuit, output, &list, places)?;
-    check_size(&cut, bound, 0)?;
-    Ok(cut)
+    let net = circuit.net();
+    add_output(alloc, field, circuit, output, cut)?;
+    check_size(cut, bound, 0)?;
+    for t in 0..order.len() {
+        let gate = &net.gates()[order[t] as usize];
+        eliminate(alloc, field, circuit, gate, cut, part, steps)?;
+        check_size(cut, bound, t as u32 + 1)?;
+    }
+    let terms = cut.to_terms()?;
+    Ok(terms)
 }
 
 // The polynomial of the last cut, with the terms of each in an ordered map.
@@ -88,19 +96,15 @@ fn reduce_in_map<F: Field, T: Steps>(
     ensures fault { IfErr result (IsRefusal (F.degree field.now) (F.product field.now) (bound_cuts circuit.now (elements_of output.now)) bound) }
     ensures steps { OnOk result (AreAllRecorded (F.degree field.now) (F.product field.now) circuit.now (elements_of output.now) (T.steps steps.old) (T.steps steps.new)) }
 {
-    let net = circuit.net();
-    let mut cut = small_first_cut(alloc, field, circuit, output, order, bound)?;
+    let places = places(alloc, circuit, order)?;
+    let mut cut = Cut::zero(alloc, places);
     let mut part = Vec::new(alloc);
-    for t in 0..order.len() {
-        let gate = &net.gates()[order[t] as usize];
-        eliminate(alloc, field, circuit, gate, &mut cut, &mut part, steps)?;
-        check_size(&cut, bound, t as u32 + 1)?;
-    }
-    let terms = cut.to_terms()?;
-    Ok(terms)
+    eliminate_all(
+        alloc, field, circuit, output, order, bound, &mut cut, &mut part, steps,
+    )
 }
 
-// The same in buckets, if that is seen to be within the bound, and else in a map.
+// The same in buckets, if the recorder does not tell its steps and each cut is seen to be within the bound, and else in a map.
 fn reduce_in_order<F: Field, T: Steps>(
     alloc: Global,
     field: &F,
@@ -118,8 +122,12 @@ fn reduce_in_order<F: Field, T: Steps>(
     ensures fault { IfErr result (IsRefusal (F.degree field.now) (F.product field.now) (bound_cuts circuit.now (elements_of output.now)) bound) }
     ensures steps { OnOk result (AreAllRecorded (F.degree field.now) (F.product field.now) circuit.now (elements_of output.now) (T.steps steps.old) (T.steps steps.new)) }
 {
-    if let Some(found) = reduce_in_buckets(alloc, field, circuit, output, order, bound, &*steps)? {
-        return Ok(found);
+    if !steps.tells() {
+        match reduce_in_buckets(alloc, field, circuit, output, order, bound) {
+            Ok(terms) => return Ok(terms),
+            Err(Stop::OutOfMemory) => return Err(ReduceFault::OutOfMemory),
+            Err(Stop::GivesUp) => {}
+        }
     }
     reduce_in_map(alloc, field, circuit, output, order, bound, steps)
 }

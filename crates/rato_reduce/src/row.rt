@@ -46,12 +46,3 @@ pub fn hash_of(rank: u32) -> u64 {
     let mixed = (u64::from(rank) ^ 0x9e3779b97f4a7c15).wrapping_mul(0xbf58476d1ce4e5b9);
     (mixed ^ (mixed >> 29)).wrapping_mul(0x94d049bb133111eb)
 }
-
-/// The exclusive or of the hashes of ranks.
-pub fn hash_of_all(ranks: &[u32]) -> u64 {
-    let mut hash = 0;
-    for rank in ranks {
-        hash ^= hash_of(*rank);
-    }
-    hash
-}

@@ -21,7 +21,7 @@ loop-place-init g c =
     let mul = g.F.Ring.product c.args.field.now in
     let f = field_of degree mul (g.met.F.Ring.laws c.args.field.now) (g.met.F.Field.no_zero_divisors c.args.field.now) in
     let P : Terms → Type 0 = IsReduced degree in
-    record { reduced = subst P (sym c.zero-sum.ensures) (reduced_nothing f); values = λ p at. ap (λ (ts : Terms). value mul p ts) c.zero-sum.ensures }
+    record { reduced = subst P (sym c.requires.nothing) (reduced_nothing f); values = λ p at. ap (λ (ts : Terms). value mul p ts) c.requires.nothing }
 
 pub loop-place-preserved : goal.loop-place-preserved
 loop-place-preserved g c =

@@ -1,12 +1,13 @@
-use Rattle.std.proofs.Common.{◌≡◌, ◌<◌, ℕ, List, Some, length, get_or, sym, ◌∙◌, ap, subst}
+use Rattle.std.proofs.Common.{◌≡◌, ◌<◌, ◌^◌, ℕ, List, Some, length, get_or, sym, ◌∙◌, ap, subst, arith}
 use Rattle.std.specs.Prelude.{slice_get}
 use Rattle.std.proofs.lemmas.Option.{slice_get-get_or}
 use Rattle.lists.specs.laws.ReadLaws.{got_read}
 use Rattle.net_core.specs.GateValue.{GateValue}
 use Rattle.net_core.specs.NetList.{NetList, nets}
 use Rattle.net_core.specs.Sound.{IsSound}
+use Rattle.stage_model.proofs.EliminationLemmas.{elimination_long}
 use Rattle.rato_reduce.proofs.InsideLemmas.{out_below}
-use Rattle.rato_reduce.proofs.TurnLemmas.{position_inside}
+use Rattle.rato_reduce.proofs.TurnLemmas.{few_turns, position_inside}
 use Rattle.rato_reduce.proofs.first_cut.places.Goals as goal
 
 pub bounds-gates-order : goal.bounds-gates-order
@@ -18,6 +19,11 @@ bounds-gates-order c =
     let inside = position_inside net order c.loop-t.t position c.requires (slice_get-get_or order c.loop-t.t 0 c.loop-t-test.true) in
     let L : List GateValue → Type 0 = λ gs. position < length gs in
     subst L (sym gates) inside
+
+pub overflow_cast-place : goal.overflow_cast-place
+overflow_cast-place c =
+    let less : c.loop-t.t < 2 ^ 32 = few_turns c.loop-t.t (length c.args.order.now) (length c.args.circuit.now.net.gates) (length c.args.circuit.now.net.latches) c.loop-t-test.true (elimination_long c.args.circuit.now.net c.args.order.now c.requires) c.net-net.ensures.sound.inside.few_gates in
+    omega (arith, less)
 
 pub rank-rank-requires : goal.rank-rank-requires
 rank-rank-requires c =

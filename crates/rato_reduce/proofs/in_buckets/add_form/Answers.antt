@@ -1,11 +1,12 @@
 use Rattle.std.proofs.Common.{◌≡◌, ℕ, List, [], sym, ◌∙◌, ap, subst}
+use Rattle.std.specs.List.{AllByRecursion}
 use Rattle.std.proofs.lemmas.List.{nil_from_length}
 use Rattle.std.proofs.lemmas.Result.{on_ok_weaker}
 use Rattle.poly_mixed.specs.Cofactor.{cofactors, lacking}
 use Rattle.poly_mixed.specs.Monomial.{text_cmp}
 use Rattle.poly_mixed.specs.Polynomial.{Terms}
 use Rattle.poly_mixed.specs.Sum.{plus}
-use Rattle.rato_reduce.specs.private.CutTerms.{all_products, ArePutIn}
+use Rattle.rato_reduce.specs.private.CutTerms.{all_products, ArePutIn, IsBitTerm}
 use Rattle.rato_reduce.specs.private.Pairs.{pair_sets}
 use Rattle.rato_reduce.specs.BoundVariables.{ranks_of_inputs}
 use Rattle.rato_reduce.specs.Monomials.{monomials}
@@ -20,6 +21,12 @@ returns-then-len-eq0 c =
       no_others = ap (lacking c.args.rank) nothing;
     }
 
+pub add_rows-requires-clause-terms : goal.add_rows-requires-clause-terms
+add_rows-requires-clause-terms c = let P : Terms → Type 0 = AllByRecursion IsBitTerm in subst P (sym c.parts.ensures) c.requires.part
+
+pub add_all_products-requires : goal.add_all_products-requires
+add_all_products-requires c = let P : Terms → Type 0 = AllByRecursion IsBitTerm in subst P (sym c.parts.ensures) c.requires.part
+
 pub returns-in-Some : goal.returns-in-Some
 returns-in-Some c =
     let old = c.args.cut.now.terms in
@@ -31,8 +38,7 @@ pub returns : goal.returns
 returns c =
     let old = c.args.cut.now.terms in
     let new = c.add_all_products.new.cut.terms in
-    let list : c.deref.result.now ≡ ranks_of_inputs c.args.circuit.now c.args.gate.now = c.deref.ensures.value ∙ c.in_ok-list.ensures in
-    let sets : c.deref-2.result.now ≡ monomials c.args.form [] (ranks_of_inputs c.args.circuit.now c.args.gate.now) 0 1 = c.deref-2.ensures.value ∙ c.in_ok-sets.ensures ∙ ap (λ (rs : List ℕ). monomials c.args.form [] rs 0 1) list in
-    let P : Terms → Type 0 = λ ts. ArePutIn c.args.rank ts c.deref-2.result.now old new in
+    let sets : c.deref.result.now ≡ monomials c.args.form [] (ranks_of_inputs c.args.circuit.now c.args.gate.now) 0 1 = c.deref.ensures.value ∙ c.in_ok-sets.ensures in
+    let P : Terms → Type 0 = λ ts. ArePutIn c.args.rank ts c.deref.result.now old new in
     let Q : List (List ℕ) → Type 0 = λ ss. ArePutIn c.args.rank c.args.part.now ss old new in
     on_ok_weaker c.add_all_products.result (λ e. subst Q sets (subst P c.parts.ensures e)) c.add_all_products.ensures

@@ -8,7 +8,7 @@ use Rattle.poly_mixed.specs.Table.{index, subset_parity, table_bit}
 use Rattle.stage_model.specs.Variables.{rank_in}
 use Rattle.rato_reduce.specs.GatePoint.{gate_bit_at}
 use Rattle.rato_reduce.specs.Monomials.{monomials}
-use Rattle.rato_reduce.proofs.InsideLemmas.{out_below}
+use Rattle.rato_reduce.proofs.InsideLemmas.{out_below, read_below}
 use Rattle.rato_reduce.proofs.ProductLemmas.{table_parity}
 use Rattle.rato_reduce.proofs.ShortListLemmas.{one_mapped}
 use Rattle.rato_reduce.proofs.SilentLemmas.{put_reduced, put_values}
@@ -16,6 +16,9 @@ use Rattle.rato_reduce.proofs.line.put_line.Goals as goal
 
 pub rank-out-requires : goal.rank-out-requires
 rank-out-requires g c = let P : ℕ → Type 0 = λ n. n < nets c.args.circuit.now.net in subst P (sym c.out.ensures) (out_below c.args.circuit.now.net c.args.gate.now c.requires.sound c.requires.gate)
+
+pub rank-by-requires : goal.rank-by-requires
+rank-by-requires g c = read_below c.args.circuit.now.net c.args.gate.now c.inputs-inputs.result.now 0 c.requires.sound c.requires.gate c.inputs-inputs.ensures.inputs (omega arith)
 
 pub returns-then-inputs-eq1-clause-reduced : goal.returns-then-inputs-eq1-clause-reduced
 returns-then-inputs-eq1-clause-reduced g c said =

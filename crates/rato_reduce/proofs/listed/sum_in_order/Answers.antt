@@ -1,4 +1,4 @@
-use Rattle.std.proofs.Common.{[], sym, ◌∙◌, ap, subst}
+use Rattle.std.proofs.Common.{◌≡◌, [], IfOk, sym, ◌∙◌, ap, subst}
 use Rattle.std.specs.List.{AllByRecursion}
 use Rattle.std.specs.List.Sorted.{IsStrictlySortedBy}
 use Rattle.std.specs.Map.{keys_of}
@@ -20,4 +20,8 @@ added_up-requires c =
     subst P (sym c.as_slice-2.ensures.value) (moved_terms c.args.terms.items c.sort_unstable_by.new.self.items c.requires c.sort_unstable_by.ensures.permutation)
 
 pub returns : goal.returns
-returns c = c.in_ok-sum.ensures ∙ ap (plus text_cmp []) c.as_slice-2.ensures.value ∙ moved_polynomial c.args.terms.items c.sort_unstable_by.new.self.items c.requires c.sort_unstable_by.ensures.permutation
+returns c =
+    let same : plus text_cmp [] c.as_slice-2.result.now ≡ plus text_cmp [] c.args.terms.items =
+    ap (plus text_cmp []) c.as_slice-2.ensures.value ∙ moved_polynomial c.args.terms.items c.sort_unstable_by.new.self.items c.requires c.sort_unstable_by.ensures.permutation in
+    let P : Terms → Type 0 = λ ts. IfOk c.added_up.result (λ v. v.items ≡ ts) in
+    subst P same c.added_up.ensures

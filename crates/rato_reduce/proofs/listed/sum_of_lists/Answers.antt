@@ -1,4 +1,4 @@
-use Rattle.std.proofs.Common.{[], sym, ◌∙◌, ap, subst}
+use Rattle.std.proofs.Common.{◌≡◌, [], IfOk, sym, subst}
 use Rattle.std.specs.List.{AllByRecursion}
 use Rattle.poly_mixed.specs.Monomial.{text_cmp}
 use Rattle.poly_mixed.specs.Polynomial.{Terms}
@@ -10,4 +10,6 @@ pub sum_in_order-requires : goal.sum_in_order-requires
 sum_in_order-requires c = let P : Terms → Type 0 = AllByRecursion IsBitTerm in subst P (sym c.in_ok-terms.ensures) c.requires
 
 pub returns : goal.returns
-returns c = c.in_ok-sum.ensures ∙ ap (plus text_cmp []) c.in_ok-terms.ensures
+returns c =
+    let P : Terms → Type 0 = λ ts. IfOk c.sum_in_order.result (λ v. v.items ≡ plus text_cmp [] ts) in
+    subst P c.in_ok-terms.ensures c.sum_in_order.ensures

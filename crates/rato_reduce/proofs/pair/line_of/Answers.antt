@@ -5,8 +5,8 @@ use Rattle.rato_reduce.proofs.pair.line_of.Goals as goal
 
 pub returns-clause-levels : goal.returns-clause-levels
 returns-clause-levels c =
-    let level = c.rank_level-level.result in
-    let up = c.rank_level-level.ensures in
+    let level = c.level_for-level.result in
+    let up = c.level_for-level.ensures in
     record {
       first_up = up;
       second_up = up;

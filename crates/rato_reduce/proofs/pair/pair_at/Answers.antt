@@ -3,8 +3,18 @@ use Rattle.net_core.specs.NetList.{nets}
 use Rattle.net_words.specs.Variables.{variables}
 use Rattle.stage_model.specs.Variables.{rank_in}
 use Rattle.rato_reduce.specs.Monomials.{monomials}
+use Rattle.rato_reduce.proofs.InsideLemmas.{read_below}
 use Rattle.rato_reduce.proofs.ShortListLemmas.{one_mapped, two_items}
 use Rattle.rato_reduce.proofs.pair.pair_at.Goals as goal
+
+pub rank-by-requires : goal.rank-by-requires
+rank-by-requires c = read_below c.args.circuit.now.net c.args.gate.now c.inputs-inputs.result.now 0 c.requires.sound c.requires.gate c.inputs-inputs.ensures.inputs (omega arith)
+
+pub rank-first-requires : goal.rank-first-requires
+rank-first-requires c = read_below c.args.circuit.now.net c.args.gate.now c.inputs-inputs.result.now 0 c.requires.sound c.requires.gate c.inputs-inputs.ensures.inputs (omega arith)
+
+pub rank-second-requires : goal.rank-second-requires
+rank-second-requires c = read_below c.args.circuit.now.net c.args.gate.now c.inputs-inputs.result.now 1 c.requires.sound c.requires.gate c.inputs-inputs.ensures.inputs (omega arith)
 
 pub returns-then-inputs-eq1-clause-sets : goal.returns-then-inputs-eq1-clause-sets
 returns-then-inputs-eq1-clause-sets c =

@@ -6,12 +6,12 @@ use Rattle.rato_reduce.proofs.pair.pair_of.Goals as goal
 
 pub returns-clause-levels : goal.returns-clause-levels
 returns-clause-levels c =
-    let one = c.rank_level-first_level.ensures in
-    let other = c.rank_level-second_level.ensures in
+    let one = c.level_for-first_level.ensures in
+    let other = c.level_for-second_level.ensures in
     record {
       first_up = one;
       second_up = other;
-      both_up = up_to_union c.args.cut.now.places c.rank_level-first_level.result c.rank_level-second_level.result c.greater_of-level.result (c.args.first ∷ []) (c.args.second ∷ []) one other c.greater_of-level.ensures.one c.greater_of-level.ensures.other;
+      both_up = up_to_union c.args.cut.now.places c.level_for-first_level.result c.level_for-second_level.result c.greater_of-level.result (c.args.first ∷ []) (c.args.second ∷ []) one other c.greater_of-level.ensures.one c.greater_of-level.ensures.other;
     }
 
 pub returns-clause-sets : goal.returns-clause-sets

@@ -1,4 +1,4 @@
-use Rattle.std.proofs.Common.{◌≡◌, ◌≤◌, ℕ, length, ◌∙◌, ap, subst}
+use Rattle.std.proofs.Common.{◌≡◌, ◌-◌, ◌≤◌, ℕ, length, ◌∙◌, ap, subst}
 use Rattle.std.proofs.lemmas.Result.{on_ok_weaker}
 use Rattle.poly_mixed.specs.Cofactor.{cofactors, lacking}
 use Rattle.rato_reduce.specs.private.Buckets.{level_at, AreLevelled, ListedPolynomial}
@@ -7,8 +7,11 @@ use Rattle.rato_reduce.proofs.BucketLemmas.{out_left, out_part}
 use Rattle.rato_reduce.proofs.buckets.Buckets.take_list.Goals as goal
 
 -- the level is that of the bit
-level : (c : goal.After-take_last) → c.level_of-level.result ≡ level_at c.self.inside.places.items c.args.rank
-level c = c.level_of-level.ensures ∙ ap (λ ps. level_at ps c.args.rank) c.as_slice.ensures.value
+level : (c : goal.After-take_last) → c.saturating_sub-level.result ≡ level_at c.self.inside.places.items c.args.rank
+level c =
+    c.saturating_sub-level.ensures
+    ∙ ap (λ n. length c.as_slice-places.result.now - n) c.place_of.ensures
+    ∙ ap (λ ps. level_at ps c.args.rank) c.as_slice-places.ensures.value
 
 after : (c : goal.After-take_last) → AreLevelled c.self.inside.places.items 0 c.take_last.new.list.items
 after c = c.take_last.ensures.levelled c.self.inside.places.items c.self.invariant.0

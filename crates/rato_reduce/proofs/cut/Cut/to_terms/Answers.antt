@@ -1,4 +1,4 @@
-use Rattle.std.proofs.Common.{◌≡◌, [], map, sym, ◌∙◌, ap, subst}
+use Rattle.std.proofs.Common.{◌≡◌, [], IfOk, map, sym, ◌∙◌, ap, subst}
 use Rattle.std.specs.List.{AllByRecursion}
 use Rattle.poly_mixed.specs.Monomial.{text_cmp}
 use Rattle.poly_mixed.specs.Polynomial.{Terms}
@@ -24,4 +24,6 @@ returns c =
     let k = c.self.inside.constant in
     let entries = c.self.inside.map.entries in
     let is : c.push_terms.new.terms.items ≡ map term_of (with_constant k entries) = constant_listed k entries _ _ c.in_ok-terms.ensures c.in_ok-push_terms.ensures in
-    c.in_ok-sum.ensures ∙ ap (plus text_cmp []) is ∙ ap (λ (q : CutPolynomial). q.terms) c.self.view_is
+    let same : plus text_cmp [] c.push_terms.new.terms.items ≡ c.args.self.now.terms = ap (plus text_cmp []) is ∙ ap (λ (q : CutPolynomial). q.terms) c.self.view_is in
+    let P : Terms → Type 0 = λ ts. IfOk c.sum_in_order.result (λ v. v.items ≡ ts) in
+    subst P same c.sum_in_order.ensures

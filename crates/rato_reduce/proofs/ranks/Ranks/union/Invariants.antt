@@ -1,6 +1,0 @@
-use Rattle.std.proofs.Common.{◌≡◌, drop}
-use Rattle.poly_mixed.specs.Product.{union}
-use Rattle.rato_reduce.proofs.ranks.Ranks.union.Given as goal
-
-abbrev pub invariant-loop-rank : goal.invariant-loop-rank
-invariant-loop-rank l = union l.items.items (drop l.rank-index l.rank-items) ≡ union l.self l.rank-items
