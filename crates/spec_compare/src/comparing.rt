@@ -17,7 +17,7 @@ use crate::first::{bits_at, first_term, number};
 use gf_basis::Basis;
 use gf_field::Field;
 use net_words::{Bound, Combinational, Role};
-use poly_mixed::Poly;
+use poly_mixed::{Poly, Term};
 use std::alloc::{AllocError, Global};
 
 // Adds the element of the next word, unless it is the output word, where the bits of these ranks are 1.
@@ -88,16 +88,21 @@ fn value_at<F: Field>(field: &F, poly: &Poly, ones: &[u32]) -> u64
     poly.value(field, &[0; 8], &bits)
 }
 
-// The sum of two polynomials.
-fn sum_of<F: Field>(alloc: Global, field: &F, left: &Poly, right: &Poly) -> Result<Poly, AllocError>
+// The terms of the sum of two polynomials.
+fn sum_of<F: Field>(
+    alloc: Global,
+    field: &F,
+    left: &Poly,
+    right: &Poly,
+) -> Result<Vec<Term>, AllocError>
     requires left { IsReduced (F.degree field.now) left.now.terms }
     requires right { IsReduced (F.degree field.now) right.now.terms }
-    ensures { IfOk result (λ q. IsSumOf (F.degree field.now) (F.product field.now) left.now.terms right.now.terms q.terms) }
+    ensures { IfOk result (λ list. IsSumOf (F.degree field.now) (F.product field.now) left.now.terms right.now.terms list.items) }
 {
     let mut sum = Poly::zero(alloc);
     sum.add_into(field, left)?;
     sum.add_into(field, right)?;
-    Ok(sum)
+    sum.terms(alloc)
 }
 
 /// Whether two polynomials in the bits of a circuit's input, state and fed words have equal values at every input.
@@ -120,8 +125,7 @@ pub fn compare<F: Field>(
     ensures { IfOk result (IsVerdict (circuit_in (F.degree field.now) (F.product field.now) circuit.now bases.now) left.now.terms right.now.terms) }
 {
     let binding = circuit.binding();
-    let sum = sum_of(alloc, field, left, right)?;
-    let terms = sum.terms(alloc)?;
+    let terms = sum_of(alloc, field, left, right)?;
     let Some(term) = first_term(&terms) else {
         return Ok(Verdict::Same);
     };
