@@ -1,11 +1,10 @@
 //! A specification as a polynomial in the bits of input, state and fed words.
-ghost use Rattle.std.specs.Prelude.{◌≡◌, ◌<◌, ◌++◌, ◌∷◌, [], length, map, slice_get, slice_index, Some, IfOk, IfErr, OnOk};
-ghost use Rattle.gf_basis.specs.BasisParts.{elements_of, IsBasisOver};
+ghost use Rattle.std.specs.Prelude.{◌≡◌, ◌<◌, ◌++◌, ◌∷◌, [], length, map, slice_index, IfOk, IfErr, OnOk};
 ghost use Rattle.circuit_model.specs.Bases.{AreBases, circuit_in};
 ghost use Rattle.circuit_model.specs.WellFormed.{IsWellFormed};
 ghost use Rattle.term_expand.specs.Feeds.{borrowed_terms};
 ghost use Rattle.spec_expand.specs.Specification.{IsOverWords};
-ghost use Rattle.spec_expand.specs.private.Expanding.{AreWordsInBits, IsOfInput, IsSetting, HasBasisAt};
+ghost use Rattle.spec_expand.specs.private.Expanding.{AreWordsInBits, IsOfInput, IsSetting};
 ghost use Rattle.spec_expand.specs.Expanded.{IsSpecExpansion};
 ghost use Rattle.spec_expand.specs.SpecListing.{IsSpecRefusal, IsSpecWithin};
 
@@ -20,47 +19,22 @@ use poly_mixed::{Poly, ReduceFault};
 use std::alloc::{AllocError, Global};
 use term_expand::expand_sum;
 
-// The number of an input, state or fed word among all words.
-fn place_at(places: &[u32], word: u32) -> u32
-    requires { word < length places.now }
-    ensures { slice_get places.now word ≡ Some result }
-{
-    places[word as usize]
-}
-
-// The basis of an input, state or fed word.
-fn basis_of<'a, F: Field>(
-    _field: &F,
-    _circuit: &Combinational,
-    bases: &'a [Basis],
-    places: &[u32],
-    word: u32,
-) -> &'a Basis
-    requires setting { IsSetting (F.degree _field.now) (F.product _field.now) _circuit.now bases.now places.now }
-    requires word { word < length (circuit_in (F.degree _field.now) (F.product _field.now) _circuit.now bases.now).words }
-    ensures own { HasBasisAt (circuit_in (F.degree _field.now) (F.product _field.now) _circuit.now bases.now) word (elements_of result.now) }
-    ensures over { IsBasisOver (F.degree _field.now) (F.product _field.now) result.now }
-{
-    let place = place_at(places, word);
-    &bases[place as usize]
-}
-
 // An input, state or fed word in its bits.
 fn own_word<F: Field>(
     alloc: Global,
     field: &F,
-    circuit: &Combinational,
+    _circuit: &Combinational,
     bases: &[Basis],
     places: &[u32],
     word: u32,
 ) -> Result<Poly, AllocError>
-    requires setting { IsSetting (F.degree field.now) (F.product field.now) circuit.now bases.now places.now }
-    requires word { word < length (circuit_in (F.degree field.now) (F.product field.now) circuit.now bases.now).words }
-    ensures { IfOk result (λ q. IsOfInput (circuit_in (F.degree field.now) (F.product field.now) circuit.now bases.now) (λ xs. slice_index xs word) q.terms) }
+    requires setting { IsSetting (F.degree field.now) (F.product field.now) _circuit.now bases.now places.now }
+    requires word { word < length (circuit_in (F.degree field.now) (F.product field.now) _circuit.now bases.now).words }
+    ensures { IfOk result (λ q. IsOfInput (circuit_in (F.degree field.now) (F.product field.now) _circuit.now bases.now) (λ xs. slice_index xs word) q.terms) }
 {
-    let basis = basis_of(field, circuit, bases, places, word);
-    let poly = word_in_bits(alloc, field, basis, word)?;
-    Ok(poly)
+    let place = places[word as usize];
+    let basis = &bases[place as usize];
+    word_in_bits(alloc, field, basis, word)
 }
 
 // The input, state and fed words in their bits.

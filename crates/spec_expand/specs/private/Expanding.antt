@@ -9,7 +9,6 @@ use Rattle.net_words.specs.OneCycle.{IsOneCycle}
 use Rattle.gf_basis.specs.declared.bases.Basis.{Basis}
 use Rattle.poly_mixed.specs.Polynomial.{Terms, Point, IsPoint, IsReduced, IsPolynomialOf, value}
 use Rattle.poly_mixed.specs.Table.{index}
-use Rattle.circuit_model.specs.Word.{Word}
 use Rattle.circuit_model.specs.Circuit.{Circuit, IsInput}
 use Rattle.stage_model.specs.InputPoint.{IsAtInput}
 use Rattle.circuit_model.specs.Bases.{AreBases}
@@ -22,10 +21,6 @@ pub record IsSetting (k : ℕ) (mul : ℕ → ℕ → ℕ) (netlist : BoundNet) 
   pub bits : netlist.binding.k ≡ k
   pub bases_are : AreBases k mul netlist bases
   pub places_are : places ≡ places_from 0 netlist.binding.words
-
--- the word of this number among the input, state and fed words has this basis
-abbrev pub HasBasisAt : Circuit → ℕ → List ℕ → Type 0
-HasBasisAt circuit w basis = (word : Word) × (slice_get circuit.words w ≡ Some word) × (word.basis ≡ basis)
 
 -- the element of these basis elements whose bits the point has at the places of word w
 abbrev pub element_in_bits : ℕ → List ℕ → ℕ → Point → ℕ
