@@ -1,5 +1,5 @@
 -- The square of a sum is the sum of the squares.
-use Rattle.std.proofs.Common.{◌≡◌, ◌∙◌, ap, ap₂, sym, refl, subst, ℕ, ◌+◌, ◌==◌, true, false, cond, [], ◌∷◌, ◌++◌, take, bit_xor, Some}
+use Rattle.std.proofs.Common.{◌≡◌, ◌∙◌, ap, ap₂, sym, refl, subst, ℕ, ◌+◌, ◌==◌, true, false, cond, [], ◌∷◌, ◌++◌, take, bit_xor, Some, Result, Ok, Err, IfOk}
 use Rattle.std.specs.Prelude.{slice_get}
 use Rattle.std.specs.List.{list_all}
 use Rattle.std.proofs.lemmas.Bool.{eqb-true, eqb-false}
@@ -16,6 +16,11 @@ use Rattle.poly_mixed.proofs.ProductLemmas.{one_term}
 use Rattle.poly_mixed.proofs.SimpleLemmas.{reduced_nothing}
 use Rattle.poly_mixed.proofs.ValueLemmas.{powers_element, product_zero}
 use Rattle.term_expand.specs.private.Square.{square_of}
+
+-- two facts of what a call gives
+pub both_ok : {X Y : Type 0} (r : Result X Y) (P Q R : X → Type 0) → ((x : X) → P x → Q x → R x) → IfOk r P → IfOk r Q → IfOk r R
+both_ok (Ok x) P Q R f p q = f x p q
+both_ok (Err e) P Q R f p q = tt
 
 module _ (k : ℕ) (mul : ℕ → ℕ → ℕ) (ring : IsRing k mul) (field : HasNoZeroDivisors k mul) where
   abbrev f : IsField k mul

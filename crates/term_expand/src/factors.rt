@@ -1,6 +1,5 @@
 //! The product of a term with its factors, each a power of what feeds a word.
 ghost use Rattle.std.specs.Prelude.{◌≡◌, ◌≢◌, ◌<◌, ◌+◌, ◌/◌, ◌^◌, drop, length, slice_get, Some, IfErr, IfOk, OnOk};
-ghost use Rattle.poly_mixed.specs.Polynomial.{IsPolynomialOf, IsReduced, value};
 ghost use Rattle.term_expand.specs.Sums.{IsFedTerm};
 ghost use Rattle.term_expand.specs.SumValue.{factors_of};
 ghost use Rattle.term_expand.specs.Feeds.{borrowed_terms, AreReduced};
@@ -21,67 +20,40 @@ struct Reached {
     factors: u32,
 }
 
-// One factor more: what feeds a word, to the power 2^j.
-fn one_factor<F: Field>(
+// The factor of a binary digit of an exponent, if the digit is 1.
+fn one_digit<F: Field>(
     alloc: Global,
     field: &F,
     _feeds: &[&Poly],
     _term: &SumTerm,
     number: u32,
+    _pair: usize,
     _word: u32,
     _j: u32,
-    power: &Poly,
-    bound: u32,
-    reached: &mut Reached,
-) -> Result<(), SumFault>
-    requires factor { slice_get (factors_of _term.now.1) reached.old.factors ≡ Some (_word, 2 ^ _j) }
-    requires few { length (factors_of _term.now.1) < 2 ^ 32 }
-    requires power { IsPowerAt (F.degree field.now) (F.product field.now) (borrowed_terms _feeds.now) _word _j power.now.terms }
-    requires reached { IsReachedAt (F.degree field.now) (F.product field.now) (borrowed_terms _feeds.now) _term.now bound reached.old }
-    ensures factors { OnOk result (reached.new.factors ≡ reached.old.factors + 1) }
-    ensures reached { OnOk result (IsReachedAt (F.degree field.now) (F.product field.now) (borrowed_terms _feeds.now) _term.now bound reached.new) }
-    ensures fault { IfErr result (IsRefusalAt (F.degree field.now) (F.product field.now) (borrowed_terms _feeds.now) _term.now number bound) }
-{
-    let product = reached.poly.mul(alloc, field, power)?;
-    let factor = reached.factors + 1;
-    let stage = SumStage::TermProduct {
-        term: number,
-        factor,
-    };
-    check_stage(product.len(), bound, stage)?;
-    reached.poly = product;
-    reached.factors = factor;
-    Ok(())
-}
-
-// The factor of a binary digit of an exponent, if the digit is 1.
-fn one_digit<F: Field>(
-    alloc: Global,
-    field: &F,
-    feeds: &[&Poly],
-    term: &SumTerm,
-    number: u32,
-    _pair: usize,
-    word: u32,
-    j: u32,
     left: u64,
     power: &Poly,
     bound: u32,
     reached: &mut Reached,
 ) -> Result<(), SumFault>
-    requires j { j < 64 }
-    requires few { length (factors_of term.now.1) < 2 ^ 32 }
-    requires power { left ≢ 0 → IsPowerAt (F.degree field.now) (F.product field.now) (borrowed_terms feeds.now) word j power.now.terms }
-    requires rest { drop reached.old.factors (factors_of term.now.1) ≡ digits_left word j left _pair term.now.1 }
-    requires reached { IsReachedAt (F.degree field.now) (F.product field.now) (borrowed_terms feeds.now) term.now bound reached.old }
-    ensures rest { OnOk result (drop reached.new.factors (factors_of term.now.1) ≡ digits_left word (j + 1) (left / 2) _pair term.now.1) }
-    ensures reached { OnOk result (IsReachedAt (F.degree field.now) (F.product field.now) (borrowed_terms feeds.now) term.now bound reached.new) }
-    ensures fault { IfErr result (IsRefusalAt (F.degree field.now) (F.product field.now) (borrowed_terms feeds.now) term.now number bound) }
+    requires j { _j < 64 }
+    requires few { length (factors_of _term.now.1) < 2 ^ 32 }
+    requires power { left ≢ 0 → IsPowerAt (F.degree field.now) (F.product field.now) (borrowed_terms _feeds.now) _word _j power.now.terms }
+    requires rest { drop reached.old.factors (factors_of _term.now.1) ≡ digits_left _word _j left _pair _term.now.1 }
+    requires reached { IsReachedAt (F.degree field.now) (F.product field.now) (borrowed_terms _feeds.now) _term.now bound reached.old }
+    ensures rest { OnOk result (drop reached.new.factors (factors_of _term.now.1) ≡ digits_left _word (_j + 1) (left / 2) _pair _term.now.1) }
+    ensures reached { OnOk result (IsReachedAt (F.degree field.now) (F.product field.now) (borrowed_terms _feeds.now) _term.now bound reached.new) }
+    ensures fault { IfErr result (IsRefusalAt (F.degree field.now) (F.product field.now) (borrowed_terms _feeds.now) _term.now number bound) }
 {
     if left % 2 == 1 {
-        one_factor(
-            alloc, field, feeds, term, number, word, j, power, bound, reached,
-        )?;
+        let product = reached.poly.mul(alloc, field, power)?;
+        let factor = reached.factors + 1;
+        let stage = SumStage::TermProduct {
+            term: number,
+            factor,
+        };
+        check_stage(product.len(), bound, stage)?;
+        reached.poly = product;
+        reached.factors = factor;
     }
     Ok(())
 }
@@ -102,18 +74,7 @@ fn next_power<F: Field>(
     if left == 0 {
         return Ok(power);
     }
-    let square = squared(alloc, field, &power)?;
-    Ok(square)
-}
-
-// A polynomial that has the values of another one.
-fn copied<F: Field>(alloc: Global, field: &F, poly: &Poly) -> Result<Poly, AllocError>
-    requires over { IsReduced (F.degree field.now) poly.now.terms }
-    ensures { IfOk result (λ q. IsPolynomialOf (F.degree field.now) (F.product field.now) (λ p. value (F.product field.now) p poly.now.terms) q.terms) }
-{
-    let mut copy = Poly::zero(alloc);
-    copy.add_into(field, poly)?;
-    Ok(copy)
+    squared(alloc, field, &power)
 }
 
 // What feeds a word, as the power 2^0.
@@ -128,7 +89,8 @@ fn first_power<F: Field>(
     ensures { IfOk result (λ q. IsPowerAt (F.degree field.now) (F.product field.now) (borrowed_terms feeds.now) word 0 q.terms) }
 {
     let feed = feeds[word as usize];
-    let power = copied(alloc, field, feed)?;
+    let mut power = Poly::zero(alloc);
+    power.add_into(field, feed)?;
     Ok(power)
 }
 

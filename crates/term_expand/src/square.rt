@@ -15,8 +15,7 @@ fn square_of_term<F: Field>(alloc: Global, field: &F, term: &Term) -> Result<Pol
     let mono = term.mono();
     let copy = Mono::new(alloc, mono.bits(), mono.exponents())?;
     let single = Poly::term(alloc, field, term.coefficient(), copy)?;
-    let square = single.mul(alloc, field, &single)?;
-    Ok(square)
+    single.mul(alloc, field, &single)
 }
 
 /// The square of a polynomial, which has the squares of its terms.

@@ -7,7 +7,7 @@ use thiserror::Error;
 
 /// A stage of the expansion of a sum. Terms and factors are numbered from 1. What it is called beside the stages of others
 /// is said by whoever lists it.
-#[derive(Clone, Copy, Debug, PartialEq, Eq)]
+#[derive(Clone, Copy, Debug)]
 pub enum SumStage {
     /// The first `factor` factors of a term.
     TermProduct { term: u32, factor: u32 },
@@ -16,7 +16,7 @@ pub enum SumStage {
 }
 
 /// Why a sum is not expanded.
-#[derive(Clone, Copy, Debug, PartialEq, Eq, Error)]
+#[derive(Clone, Copy, Debug, Error)]
 pub enum SumFault {
     /// The first stage whose size is above the bound, with that size.
     #[error("a stage has {terms} terms")]

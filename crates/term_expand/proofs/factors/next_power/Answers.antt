@@ -1,4 +1,5 @@
 use Rattle.std.proofs.Common.{ℕ, map}
+use Rattle.std.proofs.lemmas.Result.{IfOk-weaker}
 use Rattle.term_expand.proofs.PowerLemmas.{power_next}
 use Rattle.term_expand.proofs.factors.next_power.Goals as goal
 
@@ -8,4 +9,4 @@ returns g c =
     let mul : ℕ → ℕ → ℕ = g.F.Ring.product c.args.field.now in
     let ring = g.met.F.Ring.laws c.args.field.now in
     let free = g.met.F.Field.no_zero_divisors c.args.field.now in
-    λ some. power_next k mul ring free (map (λ f. f.now.terms) c.args._feeds.now) c.args._word c.args._j c.args.power.terms c.in_ok-square.square.terms (c.requires.power some) c.in_ok-square.ensures
+    IfOk-weaker c.squared.result _ _ (λ q is some. power_next k mul ring free (map (λ f. f.now.terms) c.args._feeds.now) c.args._word c.args._j c.args.power.terms q.terms (c.requires.power some) is) c.squared.ensures

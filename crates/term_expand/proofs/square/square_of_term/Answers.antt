@@ -2,7 +2,7 @@ use Rattle.std.proofs.Common.{◌≡◌, ◌∙◌, ap, ℕ, []}
 use Rattle.poly_mixed.specs.Monomial.{Monomial}
 use Rattle.poly_mixed.specs.Polynomial.{term_value}
 use Rattle.poly_mixed.specs.Sum.{with_coefficient}
-use Rattle.term_expand.proofs.SquareLemmas.{single, square_from}
+use Rattle.term_expand.proofs.SquareLemmas.{both_ok, single, square_from}
 use Rattle.term_expand.proofs.square.square_of_term.Goals as goal
 
 pub returns : goal.returns
@@ -17,4 +17,5 @@ returns g c =
     let bits = c.bits.ensures.value ∙ ap (λ (m : Monomial). m.bits) c.mono-mono.ensures in
     let same : c.in_ok-copy.copy ≡ mono = c.in_ok-copy.ensures ∙ (λ i. record { exponents = exponents i; bits = bits i }) in
     let is : c.in_ok-single.single.terms ≡ with_coefficient t.0 t.1 [] = c.in_ok-single.ensures ∙ (λ i. with_coefficient (same i) (c.coefficient.ensures i) []) in
-    square_from k mul ring free (λ p. term_value mul p t) c.in_ok-single.single.terms c.in_ok-square.square.terms (single k mul ring free t c.in_ok-single.single.terms c.requires is) c.in_ok-square.ensures.reduced c.in_ok-square.ensures.values
+    let here = single k mul ring free t c.in_ok-single.single.terms c.requires is in
+    both_ok c.mul.result _ _ _ (λ q reduced values. square_from k mul ring free (λ p. term_value mul p t) c.in_ok-single.single.terms q.terms here reduced values) c.mul.ensures.reduced c.mul.ensures.values
