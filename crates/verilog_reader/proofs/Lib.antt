@@ -8,6 +8,7 @@ mod ScopeLemmas
 mod PortLemmas
 mod ReadDetermined
 mod ItemLemmas
+mod BodyLemmas
 mod ModuleDetermined
 pub mod PrintLemmas
 pub mod GrowLemmas

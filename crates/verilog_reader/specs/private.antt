@@ -1,2 +1,4 @@
 pub mod Meets
 pub mod Listed
+pub mod Ports
+pub mod Bodies

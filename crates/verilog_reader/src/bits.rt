@@ -87,8 +87,7 @@ fn meets_scalar(
     if is_vector(declared.range(name), low, high) {
         return Ok(false);
     }
-    let met = has_scalar(alloc, declared, name, low, high)?;
-    Ok(met)
+    has_scalar(alloc, declared, name, low, high)
 }
 
 /// What is found of the bits of a vector.

@@ -71,10 +71,7 @@ fn meets(
             let met = is_bit(alloc, declared, name)?;
             Ok(Some(met))
         }
-        Some((low, high)) => {
-            let found = bits_found(alloc, declared, name, low, high)?;
-            Ok(found)
-        }
+        Some((low, high)) => bits_found(alloc, declared, name, low, high),
     }
 }
 

@@ -1,7 +1,8 @@
 //! Items of a module.
 ghost use Rattle.std.specs.Prelude.{◌≡◌, ◌⊎◌, ◌<◌, Ok, Err, IfOk, IfErr, length};
-ghost use Rattle.net_verilog.specs.private.Places.{left};
-ghost use Rattle.verilog_reader.specs.Items.{Item, Items, ReadsAssignments, ReadsDeclaration, ReadsInstances};
+ghost use Rattle.net_verilog.specs.private.Places.{Prints, left, value_of};
+ghost use Rattle.verilog_reader.specs.Items.{Item, Items};
+ghost use Rattle.verilog_reader.specs.private.Bodies.{Body, DeclaresNames};
 
 use crate::instance_list::read_instances;
 use crate::names::read_names;
@@ -9,10 +10,10 @@ use crate::ranges::read_declared_range;
 use crate::scope::Scope;
 use crate::starts::{ItemStart, is_endmodule, item_fault, item_start};
 use net_core::NetMaker;
-use net_verilog::{Cursor, Direction, GateKind, Sign, Table, VerilogFault, read_assignments, take};
+use net_verilog::{Cursor, Direction, Sign, Token, VerilogFault, read_assignments, take};
 use std::alloc::Global;
 
-// Reads the rest of a declaration: the place after its `;`.
+// Reads the names of a declaration and what stands before them: the place after the last name.
 fn read_declaration<'a>(
     alloc: Global,
     maker: &mut NetMaker,
@@ -20,64 +21,38 @@ fn read_declaration<'a>(
     direction: Direction,
     place: &Cursor<'a>,
 ) -> Result<Cursor<'a>, VerilogFault>
-    ensures made { IfOk result (λ after. ReadsDeclaration direction (declared.old, maker.old) (left place.now) (Ok ((declared.new, maker.new), left after))) }
-    ensures shorter { IfOk result (λ after. length after.rest.now < length place.now.rest.now) }
-    ensures fault { IfErr result (λ e. (e ≡ VerilogFault.OutOfMemory) ⊎ ReadsDeclaration direction (declared.old, maker.old) (left place.now) (Err e)) }
+    ensures made { IfOk result (λ end. DeclaresNames direction (declared.old, maker.old) (left place.now) (Ok ((declared.new, maker.new), left end))) }
+    ensures shorter { IfOk result (λ end. length end.rest.now < length place.now.rest.now) }
+    ensures fault { IfErr result (λ e. (e ≡ VerilogFault.OutOfMemory) ⊎ DeclaresNames direction (declared.old, maker.old) (left place.now) (Err e)) }
 {
     let (range, names) = match read_declared_range(alloc, direction, place) {
         Ok(found) => found,
         Err(fault) => return Err(fault),
     };
-    let end = match read_names(alloc, maker, declared, range, direction, &names) {
-        Ok(end) => end,
-        Err(fault) => return Err(fault),
-    };
-    match take(alloc, Sign::Semicolon, &end) {
-        Ok((_, after)) => Ok(after),
-        Err(fault) => Err(fault),
-    }
+    read_names(alloc, maker, declared, range, direction, &names)
 }
 
-// Reads the rest of an `assign`: the place after its `;`.
-fn read_assign<'a>(
+// Reads what stands between the first token of an item and its `;`: the place of the `;`.
+fn read_body<'a>(
     alloc: Global,
     maker: &mut NetMaker,
-    declared: &Table,
+    declared: &mut Scope,
+    start: ItemStart,
+    token: &Token<'_>,
     place: &Cursor<'a>,
 ) -> Result<Cursor<'a>, VerilogFault>
-    ensures made { IfOk result (λ after. ReadsAssignments (declared.now, maker.old) (left place.now) (Ok ((declared.now, maker.new), left after))) }
-    ensures shorter { IfOk result (λ after. length after.rest.now < length place.now.rest.now) }
-    ensures fault { IfErr result (λ e. (e ≡ VerilogFault.OutOfMemory) ⊎ ReadsAssignments (declared.now, maker.old) (left place.now) (Err e)) }
+    requires { Prints (value_of token.now) }
+    ensures made { IfOk result (λ end. Body start (declared.old, maker.old) (value_of token.now) (left place.now) (Ok ((declared.new, maker.new), left end))) }
+    ensures shorter { IfOk result (λ end. length end.rest.now < length place.now.rest.now) }
+    ensures fault { IfErr result (λ e. (e ≡ VerilogFault.OutOfMemory) ⊎ Body start (declared.old, maker.old) (value_of token.now) (left place.now) (Err e)) }
 {
-    let end = match read_assignments(alloc, maker, declared, place) {
-        Ok(end) => end,
-        Err(fault) => return Err(fault),
-    };
-    match take(alloc, Sign::Semicolon, &end) {
-        Ok((_, after)) => Ok(after),
-        Err(fault) => Err(fault),
-    }
-}
-
-// Reads the rest of a statement of a gate: the place after its `;`.
-fn read_gates<'a>(
-    alloc: Global,
-    maker: &mut NetMaker,
-    declared: &Table,
-    kind: GateKind,
-    place: &Cursor<'a>,
-) -> Result<Cursor<'a>, VerilogFault>
-    ensures made { IfOk result (λ after. ReadsInstances kind (declared.now, maker.old) (left place.now) (Ok ((declared.now, maker.new), left after))) }
-    ensures shorter { IfOk result (λ after. length after.rest.now < length place.now.rest.now) }
-    ensures fault { IfErr result (λ e. (e ≡ VerilogFault.OutOfMemory) ⊎ ReadsInstances kind (declared.now, maker.old) (left place.now) (Err e)) }
-{
-    let end = match read_instances(alloc, maker, declared, kind, place) {
-        Ok(end) => end,
-        Err(fault) => return Err(fault),
-    };
-    match take(alloc, Sign::Semicolon, &end) {
-        Ok((_, after)) => Ok(after),
-        Err(fault) => Err(fault),
+    match start {
+        ItemStart::Declaration(direction) => {
+            read_declaration(alloc, maker, declared, direction, place)
+        }
+        ItemStart::Assignments => read_assignments(alloc, maker, declared.table(), place),
+        ItemStart::Instances(kind) => read_instances(alloc, maker, declared.table(), kind, place),
+        ItemStart::Other => Err(item_fault(alloc, token)),
     }
 }
 
@@ -93,13 +68,14 @@ pub fn read_item<'a>(
     ensures fault { IfErr result (λ e. (e ≡ VerilogFault.OutOfMemory) ⊎ Item (declared.old, maker.old) (left place.now) (Err e)) }
 {
     let (token, after) = place.next();
-    match item_start(&token) {
-        ItemStart::Declaration(direction) => {
-            read_declaration(alloc, maker, declared, direction, &after)
-        }
-        ItemStart::Assignments => read_assign(alloc, maker, declared.table(), &after),
-        ItemStart::Instances(kind) => read_gates(alloc, maker, declared.table(), kind, &after),
-        ItemStart::Other => Err(item_fault(alloc, &token)),
+    let start = item_start(&token);
+    let end = match read_body(alloc, maker, declared, start, &token, &after) {
+        Ok(end) => end,
+        Err(fault) => return Err(fault),
+    };
+    match take(alloc, Sign::Semicolon, &end) {
+        Ok((_, after)) => Ok(after),
+        Err(fault) => Err(fault),
     }
 }
 

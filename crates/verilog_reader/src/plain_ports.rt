@@ -3,13 +3,13 @@ ghost use Rattle.std.specs.Prelude.{◌≡◌, ◌⊎◌, ◌<◌, Ok, Err, IfOk
 ghost use Rattle.net_verilog.specs.Several.{Several};
 ghost use Rattle.net_verilog.specs.private.Places.{left};
 ghost use Rattle.verilog_reader.specs.Items.{State};
-ghost use Rattle.verilog_reader.specs.Modules.{PlainPort, PlainPorts};
+ghost use Rattle.verilog_reader.specs.Modules.{PlainPort};
 
-use net_verilog::{Cursor, Sign, VerilogFault, is_sign, read_identifier, take};
+use net_verilog::{Cursor, Sign, VerilogFault, is_sign, read_identifier};
 use std::alloc::Global;
 
-// Reads names with commas between them: the place after the last.
-fn read_plain_names<'a>(alloc: Global, place: &Cursor<'a>) -> Result<Cursor<'a>, VerilogFault>
+/// Reads names with commas between them: the place after the last.
+pub fn read_plain_names<'a>(alloc: Global, place: &Cursor<'a>) -> Result<Cursor<'a>, VerilogFault>
     ensures made { IfOk result (λ after. (state : State) → Several PlainPort state (left place.now) (Ok (state, left after))) }
     ensures fault { IfErr result (λ e. (e ≡ VerilogFault.OutOfMemory) ⊎ ((state : State) → Several PlainPort state (left place.now) (Err e))) }
 {
@@ -24,20 +24,5 @@ fn read_plain_names<'a>(alloc: Global, place: &Cursor<'a>) -> Result<Cursor<'a>,
             return Ok(next);
         }
         here = after;
-    }
-}
-
-/// Reads a plain list of ports and its `)`: the place after it.
-pub fn read_plain_ports<'a>(alloc: Global, place: &Cursor<'a>) -> Result<Cursor<'a>, VerilogFault>
-    ensures made { IfOk result (λ after. (state : State) → PlainPorts state (left place.now) (Ok (state, left after))) }
-    ensures fault { IfErr result (λ e. (e ≡ VerilogFault.OutOfMemory) ⊎ ((state : State) → PlainPorts state (left place.now) (Err e))) }
-{
-    let right = match read_plain_names(alloc, place) {
-        Ok(right) => right,
-        Err(fault) => return Err(fault),
-    };
-    match take(alloc, Sign::Close, &right) {
-        Ok((_, after)) => Ok(after),
-        Err(fault) => Err(fault),
     }
 }

@@ -4,10 +4,11 @@ ghost use Rattle.net_verilog.specs.Several.{Several};
 ghost use Rattle.net_verilog.specs.declared.declared.Direction.TheVariants.{Wire};
 ghost use Rattle.net_verilog.specs.private.Decimals.{IsSmall};
 ghost use Rattle.net_verilog.specs.private.Places.{left};
-ghost use Rattle.verilog_reader.specs.Modules.{DeclaredPorts, PortList, PortsAfter, PortsFrom, ReadsPort, head_of};
+ghost use Rattle.verilog_reader.specs.Modules.{PortList, PortsAfter, ReadsPort, head_of};
+ghost use Rattle.verilog_reader.specs.private.Ports.{NamesFrom};
 
 use crate::names::read_name;
-use crate::plain_ports::read_plain_ports;
+use crate::plain_ports::read_plain_names;
 use crate::ranges::read_wire_range;
 use crate::scope::Scope;
 use crate::starts::{item_start, port_direction};
@@ -98,27 +99,7 @@ fn read_ports<'a>(
     }
 }
 
-// Reads a list of declarations and its `)`.
-fn read_declared_ports<'a>(
-    alloc: Global,
-    maker: &mut NetMaker,
-    declared: &mut Scope,
-    place: &Cursor<'a>,
-) -> Result<Cursor<'a>, VerilogFault>
-    ensures made { IfOk result (λ after. DeclaredPorts (declared.old, maker.old) (left place.now) (Ok ((declared.new, maker.new), left after))) }
-    ensures fault { IfErr result (λ e. (e ≡ VerilogFault.OutOfMemory) ⊎ DeclaredPorts (declared.old, maker.old) (left place.now) (Err e)) }
-{
-    let (_, right) = match read_ports(alloc, maker, declared, place) {
-        Ok(found) => found,
-        Err(fault) => return Err(fault),
-    };
-    match take(alloc, Sign::Close, &right) {
-        Ok((_, after)) => Ok(after),
-        Err(fault) => Err(fault),
-    }
-}
-
-// Reads the ports that begin with a token.
+// Reads the ports that begin with a token: the place after the last.
 fn read_ports_from<'a>(
     alloc: Global,
     maker: &mut NetMaker,
@@ -126,12 +107,15 @@ fn read_ports_from<'a>(
     start: Option<Direction>,
     place: &Cursor<'a>,
 ) -> Result<Cursor<'a>, VerilogFault>
-    ensures made { IfOk result (λ after. PortsFrom start (declared.old, maker.old) (left place.now) (Ok ((declared.new, maker.new), left after))) }
-    ensures fault { IfErr result (λ e. (e ≡ VerilogFault.OutOfMemory) ⊎ PortsFrom start (declared.old, maker.old) (left place.now) (Err e)) }
+    ensures made { IfOk result (λ right. NamesFrom start (declared.old, maker.old) (left place.now) (Ok ((declared.new, maker.new), left right))) }
+    ensures fault { IfErr result (λ e. (e ≡ VerilogFault.OutOfMemory) ⊎ NamesFrom start (declared.old, maker.old) (left place.now) (Err e)) }
 {
     match start {
-        None => read_plain_ports(alloc, place),
-        Some(_) => read_declared_ports(alloc, maker, declared, place),
+        None => read_plain_names(alloc, place),
+        Some(_) => match read_ports(alloc, maker, declared, place) {
+            Ok((_, right)) => Ok(right),
+            Err(fault) => Err(fault),
+        },
     }
 }
 
@@ -149,14 +133,13 @@ fn read_ports_after<'a>(
     if is_sign(Sign::Close, token.kind) {
         return Ok(after);
     }
-    match read_ports_from(
-        alloc,
-        maker,
-        declared,
-        port_direction(item_start(&token)),
-        place,
-    ) {
-        Ok(after) => Ok(after),
+    let start = port_direction(item_start(&token));
+    let right = match read_ports_from(alloc, maker, declared, start, place) {
+        Ok(right) => right,
+        Err(fault) => return Err(fault),
+    };
+    match take(alloc, Sign::Close, &right) {
+        Ok((_, after)) => Ok(after),
         Err(fault) => Err(fault),
     }
 }
