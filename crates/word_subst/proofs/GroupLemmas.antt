@@ -124,6 +124,9 @@ module _ {k : ℕ} {mul : ℕ → ℕ → ℕ} (f : IsField k mul) (w : ℕ) (in
         | Greater ↦ omega (arith, few gs)
       ]
 
+  pub few_after : after ≤ before + length part
+  few_after = omega (arith, added.after_is, added.is.few, added.before_is)
+
   pub adds_group : AddsGroup k mul w m part old new
   adds_group p at =
       let x = slice_index p.words w in

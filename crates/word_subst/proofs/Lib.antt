@@ -22,6 +22,7 @@ mod CallerLemmas
 mod GatheredPowersLemmas
 mod SomeProductsLemmas
 mod KeptLemmas
+mod MappedLemmas
 mod ReadFromLemmas
 mod ReadAtOnceLemmas
 mod LinearLemmas

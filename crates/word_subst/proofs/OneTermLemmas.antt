@@ -15,10 +15,15 @@ use Rattle.word_subst.proofs.Telling.{TellsMultiplier}
 use Rattle.std.specs.List.Sorted.{IsStrictlySortedBy}
 use Rattle.std.specs.Ordering.{nat_cmp}
 use Rattle.lists.specs.laws.ListLaws.{length-push}
+use Rattle.lists.specs.laws.NumberLaws.{mul_few}
 use Rattle.lists.specs.laws.ReadLaws.{got_push}
 use Rattle.word_subst.proofs.RisingLemmas.{few_between, rest_is, drop_rises}
 use Rattle.word_subst.proofs.MultiplierLemmas.{multiplier_is}
 use Rattle.poly_mixed.proofs.RecorderLemmas.{tells_none, tells_more}
+
+-- the first rank of a word
+pub rank_low : (k m w : ℕ) → m ≡ k → k ≤ 64 → w < 8 → m * w ≤ 512
+rank_low k m w same small inside = mul_few m w 64 8 (omega arith) (omega arith)
 
 module _ (k w : ℕ) (t : Monomial × ℕ) where
   -- a term has no more bits of a word than the word has
@@ -55,8 +60,8 @@ module _ (k w : ℕ) (t : Monomial × ℕ) where
       let P : List ℕ → Type 0 = IsStrictlySortedBy nat_cmp in
       subst P (sym (later_is own slice j own_are same)) (drop_rises (suc j) (word_bits k w t) (rising-filter (is_of_word k w) t.0.bits is.monomial.rising))
 
-  pub few_own : (own : List ℕ) → IsTerm k t → own ≡ word_bits k w t → length own ≤ k
-  few_own own is same = let P : List ℕ → Type 0 = λ xs. length xs ≤ k in subst P (sym same) (few_bits is)
+  pub few_own : (own : List ℕ) → IsTerm k t → k ≤ 64 → own ≡ word_bits k w t → length own ≤ 64
+  few_own own is small same = let few = few_bits is in let P : List ℕ → Type 0 = λ xs. length xs ≤ 64 in subst P (sym same) (omega (arith, few, small))
 
   module _ (mul : ℕ → ℕ → ℕ) (elements : List ℕ) (bound : ℕ) where
     pub none_told : (old : Option (List Step)) → TellsFirst k mul elements w t 0 old old

@@ -1,8 +1,8 @@
 -- One word, term by term.
-use Rattle.std.proofs.Common.{◌≡◌, ◌∙◌, ap, sym, refl, subst, inl, inr, ℕ, ◌<◌, ◌≤◌, ◌+◌, List, [], ◌∷◌, ◌++◌, length, take, Option, Some, arith, append-nil, bit_xor}
-use Rattle.std.specs.Prelude.{slice_get}
+use Rattle.std.proofs.Common.{◌≡◌, ◌∙◌, ap, sym, refl, subst, inl, inr, ℕ, ◌<◌, ◌≤◌, ◌+◌, List, [], ◌∷◌, ◌++◌, length, take, Option, Some, None, Result, Ok, Err, arith, append-nil, bit_xor}
+use Rattle.std.specs.Prelude.{slice_get, IfOk, IfSome}
 use Rattle.std.proofs.lemmas.Bool.{cases_eq}
-use Rattle.std.proofs.lemmas.List.{append_assoc, take_more}
+use Rattle.std.proofs.lemmas.List.{append_assoc, take_all, take_more}
 use Rattle.std.proofs.lemmas.Option.{slice_get_within, get_or_from_slice_get}
 use Rattle.poly_mixed.specs.Monomial.{Monomial, text_cmp}
 use Rattle.poly_mixed.specs.Sum.{plus}
@@ -24,7 +24,10 @@ use Rattle.poly_mixed.proofs.RecorderLemmas.{tells_none, tells_more}
 use Rattle.stage_model.proofs.WordPolyLemmas.{sum_next}
 use Rattle.word_subst.specs.Spread.{Groups, total, IsGroup, all_terms}
 use Rattle.word_subst.specs.Rest.{AddsTerm}
-use Rattle.word_subst.proofs.SpreadLemmas.{nothing_sorted, gathered_reduced, gathered_value, groups_terms, groups_nonzero}
+use Rattle.word_subst.specs.Prefix.{Products, AreProducts}
+use Rattle.word_subst.specs.AtOnce.{IsReadAtOnce}
+use Rattle.word_subst.specs.private.Reading.{IsReadTo, IsWordRead}
+use Rattle.word_subst.proofs.SpreadLemmas.{nothing_sorted, gathered_reduced, gathered_value, groups_length, groups_terms, groups_nonzero}
 
 module _ (k : ℕ) (mul : ℕ → ℕ → ℕ) (elements : List ℕ) (w : ℕ) (terms : Terms) (bound : ℕ) where
   pub no_terms_within : AreTermsWithin k mul elements w terms 0 bound
@@ -81,6 +84,20 @@ module _ (k : ℕ) (mul : ℕ → ℕ → ℕ) (elements : List ℕ) (w : ℕ) (
       let P : Terms → Type 0 = λ ts. TellsTerms k mul elements w ts old new in
       subst P (sym is) (record { steps = so_far.steps ++ last.steps; are = steps_push (take n terms) t so_far.steps last.steps so_far.are last.are; told = tells_more old mid new so_far.steps last.steps so_far.told last.told })
 
+  pub all_told : (n : ℕ) (old new : Option (List Step)) → length terms ≤ n → TellsTerms k mul elements w (take n terms) old new → TellsTerms k mul elements w terms old new
+  all_told n old new most so_far =
+      let P : Terms → Type 0 = λ ts. TellsTerms k mul elements w ts old new in
+      subst P (take_all n terms most) so_far
+
+  -- where nobody asks for pairs, those of terms that are read at once are there all the same
+  pub untold_read : {A E : Type 0} (terms_of : A → Terms) (steps : Option (List Step)) → steps ≡ None → (r : Result (Option A) E) → IfOk r (λ o. IfSome o (λ q. IsReadAtOnce k mul elements w terms bound (terms_of q)))
+      → IfOk r (λ o. IfSome o (λ q. IsWordRead k mul elements w terms bound steps steps (terms_of q)))
+  untold_read terms_of steps none (Ok (Some q)) is =
+      let P : Option (List Step) → Type 0 = λ o. TellsTerms k mul elements w terms o o in
+      record { sum = is.sum; small = is.small; within = is.within; told = subst P (sym none) is.quiet }
+  untold_read terms_of steps none (Ok None) is = tt
+  untold_read terms_of steps none (Err e) is = tt
+
 -- ---- the sum of the terms
 
 module _ {k : ℕ} {mul : ℕ → ℕ → ℕ} (f : IsField k mul) (elements : List ℕ) (w : ℕ) (inside : w < 8) (terms : Terms) where
@@ -97,3 +114,40 @@ module _ {k : ℕ} {mul : ℕ → ℕ → ℕ} (f : IsField k mul) (elements : L
   sum_added i t old new at all more before added =
       sum_next k mul elements w terms i t (plus text_cmp [] (all_terms w old)) added.part (plus text_cmp [] (all_terms w new)) (slice_get_within terms i t at) (get_or_from_slice_get terms i t t at) before added.is (groups_reduced new more)
       (λ p at_p. gathered_value f p at_p (all_terms w new) (groups_terms w k inside new more) ∙ (added.values p at_p ∙ ap (λ n. bit_xor n (value mul p added.part)) (sym (gathered_value f p at_p (all_terms w old) (groups_terms w k inside old all)))))
+
+  -- ---- how far the code has come
+
+  pub none_read : (bound : ℕ) (held : Products) (sums : Groups) → sums ≡ [] → AreProducts k mul elements w bound held → IsReadTo k mul elements w terms bound 0 held sums
+  none_read bound held sums none are =
+      let start = nothing_summed bound sums none in
+      record { products = are; groups = start.0; ordered = start.1; sum = start.2; small = start.3; within = no_terms_within k mul elements w terms bound }
+
+  module _ (bound n : ℕ) (t : Monomial × ℕ) (at : slice_get terms n ≡ Some t) (held : Products) (old new : Groups) (before : IsReadTo k mul elements w terms bound n held old) (term : IsTermWithin k mul elements w t bound) (all : AllByRecursion (IsGroup w k) new) (up : IsStrictlySortedBy text_cmp (keys_of new)) (added : AddsTerm k mul elements w t old new) where
+    sum_with : IsSumOf k mul elements w terms (n + 1) (plus text_cmp [] (all_terms w new))
+    sum_with = sum_added n t old new at before.groups all before.sum added
+
+    size_is : length (plus text_cmp [] (all_terms w new)) ≡ total new
+    size_is = groups_length w k inside new all up
+
+    pub one_more_read : (size : ℕ) (next : Products) → size ≡ total new → AreProducts k mul elements w bound next → size ≤ bound → IsReadTo k mul elements w terms bound (n + 1) next new
+    one_more_read size next is are small =
+        let few : total new ≤ bound = omega (arith, is, small) in
+        record {
+          products = are;
+          groups = all;
+          ordered = up;
+          sum = sum_with;
+          small = few;
+          within = one_more_within k mul elements w terms bound n t (plus text_cmp [] (all_terms w new)) at before.within term sum_with (omega (arith, few, size_is));
+        }
+
+    pub sum_over : (size : ℕ) (fault : ReduceFault) → size ≡ total new → (fault ≡ TooManyTerms (WordSum w (n + 1)) size) × (bound < size) → IsWordRefusal k mul elements w terms bound fault
+    sum_over size fault is over =
+        let same : size ≡ length (plus text_cmp [] (all_terms w new)) = is ∙ sym size_is in
+        sum_first k mul elements w terms bound n t (plus text_cmp [] (all_terms w new)) fault at before.within term sum_with (omega (arith, over.1, same)) (over.0 ∙ ap (TooManyTerms (WordSum w (n + 1))) same)
+
+  pub all_read : (bound : ℕ) (held : Products) (sums : Groups) (old new : Option (List Step)) (ts : Terms) → IsReadTo k mul elements w terms bound (length terms) held sums → TellsTerms k mul elements w terms old new → ts ≡ plus text_cmp [] (all_terms w sums)
+      → IsWordRead k mul elements w terms bound old new ts
+  all_read bound held sums old new ts read told made =
+      let P : Terms → Type 0 = IsWordRead k mul elements w terms bound old new in
+      subst P (sym made) (record { sum = read.sum; small = omega (arith, groups_length w k inside sums read.groups read.ordered, read.small); within = read.within; told = told })

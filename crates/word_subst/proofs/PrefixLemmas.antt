@@ -200,3 +200,17 @@ form_at k mul elements word m j own forms form all less same are read =
   where
     small : (b r : ℕ) → (b ≤ r) × (r < b + k) → length forms ≡ k → r - b < length forms
     small b r range long = omega (arith, range.0, range.1, long)
+
+-- the place of the bit that the code reads
+pub place_at : (k : ℕ) (mul : ℕ → ℕ → ℕ) (elements : List ℕ) (word m j : ℕ) (own : List ℕ) (forms : List Powers) → AllByRecursion (λ r. is_of_word k word r ≡ true) own → j < length own → m ≡ k → AreForms k mul elements forms
+    → (m * word ≤ get_or own j 0) × (get_or own j 0 - m * word < length forms)
+place_at k mul elements word m j own forms all less same are =
+    let range = own_range k word (get_or own j 0) (at_index (λ r. is_of_word k word r ≡ true) own j all less) in
+    let P : ℕ → Type 0 = λ n. (n * word ≤ get_or own j 0) × (get_or own j 0 - n * word < length forms) in
+    subst P (sym same) (small (k * word) (get_or own j 0) range are.long)
+  where
+    small : (b r : ℕ) → (b ≤ r) × (r < b + k) → length forms ≡ k → (b ≤ r) × (r - b < length forms)
+    small b r range long = (range.0, omega (arith, range.0, range.1, long))
+
+pub next_inside : (j n : ℕ) → j < n → j + 1 ≤ n
+next_inside j n less = omega arith

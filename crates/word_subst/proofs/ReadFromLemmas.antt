@@ -1,5 +1,5 @@
 -- Terms that are split by one bit of the word after another.
-use Rattle.std.proofs.Common.{◌≡◌, ◌≢◌, ◌∙◌, ap, sym, refl, subst, inl, inr, ℕ, suc, ◌<◌, ◌≤◌, ◌+◌, ◌-◌, ◌*◌, ◌==◌, ◌&&◌, ◌||◌, Bool, true, false, cond, not, nat_eq, nat_le, nat_lt, List, [], ◌∷◌, ◌++◌, length, take, take_all, map, get_or, zero, slice_index, bit_xor, arith}
+use Rattle.std.proofs.Common.{◌≡◌, ◌≢◌, ◌∙◌, ap, sym, refl, subst, inl, inr, ℕ, suc, ◌<◌, ◌≤◌, ◌+◌, ◌-◌, ◌*◌, ◌==◌, ◌&&◌, ◌||◌, Bool, true, false, cond, not, nat_eq, nat_le, nat_lt, List, [], ◌∷◌, ◌++◌, length, take, take_all, drop, map, get_or, append_assoc, zero, slice_index, bit_xor, arith}
 use Rattle.std.specs.Int.{bit_at}
 use Rattle.std.specs.Int.Bits.{xor_zero_l, xor_assoc}
 use Rattle.std.specs.List.{AllByRecursion, filter, list_all, list_any}
@@ -10,6 +10,7 @@ use Rattle.gf_field.specs.Power.{power}
 use Rattle.lists.specs.laws.ListLaws.{map_push, all_append}
 use Rattle.lists.specs.laws.NumberLaws.{bit_is_choice}
 use Rattle.lists.specs.laws.ReadLaws.{got_read}
+use Rattle.lists.specs.laws.TakeLaws.{drop_read}
 use Rattle.lists.specs.laws.XorLaws.{xor_swap}
 use Rattle.poly_mixed.specs.Monomial.{Monomial, has_bit}
 use Rattle.poly_mixed.specs.Polynomial.{Terms, IsTerm}
@@ -141,6 +142,13 @@ one_item_more xs i t P less read all here =
     let is : take (i + 1) xs ≡ take i xs ++ t ∷ [] = take_more xs i t less ∙ ap (λ y. take i xs ++ y ∷ []) (sym read) in
     subst (AllByRecursion P) (sym is) (all_append P (take i xs) (t ∷ []) all (here, tt))
 
+pub mapped_push : {X Y : Type 0} (xs new : List X) (ys : List Y) (g : X → Y) (i : ℕ) (x : X) (y : Y) → new ≡ xs ++ x ∷ [] → g x ≡ y → y ≡ get_or ys i y → i < length ys → map g xs ++ drop i ys ≡ ys → map g new ++ drop (i + 1) ys ≡ ys
+mapped_push {X} {Y} xs new ys g i x y made same read less before =
+    let rest : List Y = drop (i + 1) ys in
+    ap (λ zs. map g zs ++ rest) made
+    ∙ (ap (λ zs. zs ++ rest) (map_push g xs x ∙ ap (λ z. map g xs ++ z ∷ []) same)
+    ∙ (append_assoc (map g xs) (y ∷ []) rest ∙ (ap (λ zs. map g xs ++ zs) (sym (drop_read ys i y less read)) ∙ before)))
+
 pub all_taken : {X : Type 0} (xs : List X) (n : ℕ) (P : X → Type 0) → length xs ≤ n → AllByRecursion P (take n xs) → AllByRecursion P xs
 all_taken xs n P most all = subst (AllByRecursion P) (take_all n xs most) all
 
@@ -210,6 +218,11 @@ module _ {k : ℕ} {mul : ℕ → ℕ → ℕ} (f : IsField k mul) (elements : L
         values = λ x at. refl;
       })
 
+  pub all_summed : {X : Type 0} (items : List X) (i : ℕ) (g : X → Monomial × ℕ) (us : Powers) → length items ≤ i → IsSumOfPowers k mul elements w (map g (take i items)) us → IsSumOfPowers k mul elements w (map g items) us
+  all_summed {X} items i g us most so_far =
+      let P : List X → Type 0 = λ xs. IsSumOfPowers k mul elements w (map g xs) us in
+      subst P (take_all i items most) so_far
+
   pub sum_more : {X : Type 0} (g : X → Monomial × ℕ) (items : List X) (i : ℕ) (t : X) (old one new : Powers) → i < length items → t ≡ get_or items i t → IsSumOfPowers k mul elements w (map g (take i items)) old → IsSumOfPowers k mul elements w (g t ∷ []) one → IsSum k mul old one new
       → IsSumOfPowers k mul elements w (map g (take (i + 1) items)) new
   sum_more g items i t old one new less read before own sum =
@@ -235,3 +248,11 @@ module _ {k : ℕ} {mul : ℕ → ℕ → ℕ} (f : IsField k mul) (elements : L
 -- the form that the code reads
 pub form_read : (k : ℕ) (mul : ℕ → ℕ → ℕ) (elements : List ℕ) (place : ℕ) (forms : List Powers) (form : Powers) → AreForms k mul elements forms → place < k → form ≡ get_or forms place form → IsForm k mul elements place form
 form_read k mul elements place forms form are less read = are.each place form (got_read forms place form (omega (arith, less, are.long)) read)
+
+-- ---- numbers
+
+pub below_last : (k m p : ℕ) → m ≡ k → p ≤ k → p ≢ m → p < k
+below_last k m p same most apart = omega arith
+
+pub next_closer : (k p : ℕ) → p < k → k - (p + 1) < k - p
+next_closer k p less = omega arith

@@ -54,6 +54,10 @@ take_all_of P (suc n) (x ∷ xs) all = (all.0, take_all_of P n xs all.1)
 pub own_are : (k w : ℕ) (xs : List ℕ) → AllByRecursion (λ r. is_of_word k w r ≡ true) (filter (is_of_word k w) xs)
 own_are k w xs = filter_all (λ r. is_of_word k w r ≡ true) (is_of_word k w) (λ x e. e) xs
 
+-- the ranks that the code finds are a term's bits of the word
+pub own_found : (k m w : ℕ) (t : Monomial × ℕ) (mono : Monomial) (bits items own : List ℕ) → own ≡ items → items ≡ filter (is_of_word m w) bits → bits ≡ mono.bits → mono ≡ t.0 → m ≡ k → own ≡ word_bits k w t
+own_found k m w t mono bits items own same made bits_are mono_is m_is = same ∙ (made ∙ (λ i. filter (is_of_word (m_is i) w) ((bits_are ∙ ap (λ (n : Monomial). n.bits) mono_is) i)))
+
 module _ {k : ℕ} {mul : ℕ → ℕ → ℕ} (f : IsField k mul) (elements : List ℕ) (w : ℕ) (inside : w < 8) (t : Monomial × ℕ) (is : IsTerm k t) where
   abbrev own : List ℕ
   own = word_bits k w t

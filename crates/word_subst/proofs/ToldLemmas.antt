@@ -26,6 +26,15 @@ got_index [] j less = absurd (omega arith)
 got_index (x ∷ xs) zero less = refl
 got_index (x ∷ xs) (suc j) less = got_index xs j (omega arith)
 
+module _ (k : ℕ) (mul : ℕ → ℕ → ℕ) (elements : List ℕ) (w bound : ℕ) (ps : Products) (own : List ℕ) (are : AreProducts k mul elements w bound ps) (same : own ≡ ps.ranks) where
+  -- there is a product with all these bits
+  pub has_last : length own < length ps.products
+  has_last = omega (arith, ap length same, are.long)
+
+  -- and one with the first j of them
+  pub has_earlier : (j : ℕ) → j < length own → j < length ps.products
+  has_earlier j less = omega (arith, ap length same, are.long, less)
+
 module _ {k : ℕ} {mul : ℕ → ℕ → ℕ} (f : IsField k mul) (elements : List ℕ) (w : ℕ) (inside : w < 8) (t : Monomial × ℕ) (is : IsTerm k t) (some : t.1 ≢ 0) (bound : ℕ) (ps : Products) (are : AreProducts k mul elements w bound ps) (ranks : ps.ranks ≡ word_bits k w t) (start : ps.start ≡ slice_index t.0.exponents w) where
   -- the product with the first j bits
   pub bit_product : (j : ℕ) (us : Powers) → slice_get ps.products j ≡ Some us → IsBitProduct k mul elements w (slice_index t.0.exponents w) (take j (word_bits k w t)) us

@@ -1,5 +1,5 @@
 -- What is known of a word when its turn comes.
-use Rattle.std.proofs.Common.{◌≡◌, ◌∙◌, ap, refl, subst, ℕ, ◌<◌, List, length, map, get_or, Some, arith}
+use Rattle.std.proofs.Common.{◌≡◌, ◌∙◌, ap, refl, subst, ℕ, ◌<◌, ◌≤◌, List, length, map, get_or, Some, arith}
 use Rattle.std.specs.Prelude.{slice_get}
 use Rattle.std.proofs.lemmas.Option.{slice_get-map}
 use Rattle.std.proofs.lemmas.List.{length-map}
@@ -43,6 +43,13 @@ module _ (k : ℕ) (mul : ℕ → ℕ → ℕ) (b : BoundNet) (bases : List Basi
 
   pub as_many : (places : List ℕ) → places ≡ places_from 0 b.binding.words → length places ≡ length (circuit_in k mul b bases).words
   as_many places is = ap length is ∙ places_long 0 b.binding.words (map elements_of bases) all_long
+
+  -- the last word's turn is over
+  pub all_taken : (places : List ℕ) → places ≡ places_from 0 b.binding.words → (w n : ℕ) → n ≡ length places → n ≤ w → w ≤ n → w ≡ length (circuit_in k mul b bases).words
+  all_taken places is w n many most least = omega (arith, as_many places is, many, most, least)
+
+  pub few_places : (places : List ℕ) → places ≡ places_from 0 b.binding.words → IsWellFormed (circuit_in k mul b bases) → (w : ℕ) → w < length places → w < 8
+  few_places places is well w less = omega (arith, as_many places is, well.few, less)
 
   module _ (places : List ℕ) (is : places ≡ places_from 0 b.binding.words) (w v : ℕ) (less : w < length places) (read : v ≡ get_or places w v) where
     at_place : slice_get (places_from 0 b.binding.words) w ≡ Some v

@@ -242,3 +242,7 @@ module _ {k : ℕ} {mul : ℕ → ℕ → ℕ} (f : IsField k mul) where
         let first : mid ≡ sum ++ drop i us = mid_is ∙ ap (λ xs. sum ++ xs) (rest_is i left ∙ ap (λ xs. drop i xs) left_is) in
         let last : new ≡ (sum ++ drop i us) ++ drop j vs = new_is ∙ ((λ n. first n ++ take (length right - j) (drop j right)) ∙ ap (λ xs. (sum ++ drop i us) ++ xs) (rest_is j right ∙ ap (λ xs. drop j xs) right_is)) in
         subst (IsSum k mul us vs) (sym last) whole
+
+-- more of both is taken
+pub closer : (a b i j p q : ℕ) → p ≤ a → q ≤ b → i + j < p + q → (a + b) - (p + q) < (a + b) - (i + j)
+closer a b i j p q left right more = omega arith

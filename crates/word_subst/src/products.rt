@@ -89,6 +89,13 @@ impl BitProducts {
         self.start
     }
 
+    /// The ranks of the term's bits of the word.
+    pub fn ranks(&self) -> &[u32]
+        ensures { result.now ≡ self.now.ranks }
+    {
+        &self.ranks
+    }
+
     /// The product with the first `j` bits.
     pub fn at(&self, j: usize) -> &Univariate
         requires { j < length self.now.products }

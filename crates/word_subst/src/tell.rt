@@ -1,14 +1,14 @@
 //! The pairs of a term's bits of the word.
-ghost use Rattle.std.specs.Prelude.{◌≡◌, ◌≢◌, ◌<◌, ◌+◌, ℕ, length, slice_index, List, Option, OnOk, IsTrue};
+ghost use Rattle.std.specs.Prelude.{◌≡◌, ◌≢◌, ◌<◌, ◌+◌, ℕ, length, List, Option, OnOk, IsTrue};
 ghost use Rattle.std.specs.List.{AllByRecursion};
 ghost use Rattle.gf_basis.specs.BasisParts.{elements_of};
 ghost use Rattle.poly_mixed.specs.Polynomial.{IsReduced, IsTerm};
 ghost use Rattle.poly_mixed.specs.Steps.{Step};
 ghost use Rattle.stage_model.specs.WordStage.{word_bits};
-ghost use Rattle.word_subst.specs.Prefix.{AreProducts};
 ghost use Rattle.word_subst.specs.ReadSteps.{TellsFirst, TellsTerm, TellsTerms};
 ghost use Rattle.word_subst.specs.Rest.{rest_of};
 ghost use Rattle.word_subst.specs.Whole.{HasFirst};
+ghost use Rattle.word_subst.specs.private.Reading.{IsFollowed};
 
 use crate::multiple::scaled;
 use crate::product::with_bits;
@@ -35,12 +35,8 @@ fn tell_bit<F: Field, T: Steps>(
     steps: &mut T,
 ) -> Result<(), AllocError>
     requires word { word < 8 }
-    requires term { IsTerm (F.degree field.now) term.now }
-    requires some { term.now.1 ≢ 0 }
-    requires own { own.now ≡ word_bits (F.degree field.now) word term.now }
-    requires products { AreProducts (F.degree field.now) (F.product field.now) (elements_of _basis.now) word _bound products.now }
-    requires ranks { products.now.ranks ≡ own.now }
-    requires start { products.now.start ≡ slice_index term.now.0.exponents word }
+    requires followed { IsFollowed (F.degree field.now) (F.product field.now) (elements_of _basis.now) word term.now _bound products.now }
+    requires own { own.now ≡ products.now.ranks }
     requires others { others.now ≡ rest_of (F.degree field.now) word term.now.0 }
     requires place { j < length own.now }
     ensures { OnOk result ((first : Option (List Step)) → TellsFirst (F.degree field.now) (F.product field.now) (elements_of _basis.now) word term.now j first (T.steps steps.old) → TellsFirst (F.degree field.now) (F.product field.now) (elements_of _basis.now) word term.now (j + 1) first (T.steps steps.new)) }
@@ -98,22 +94,17 @@ pub fn tell<F: Field, T: Steps>(
     word: u32,
     term: &Term,
     bound: u32,
-    own: &[u32],
     products: &BitProducts,
     steps: &mut T,
 ) -> Result<(), AllocError>
     requires word { word < 8 }
-    requires term { IsTerm (F.degree field.now) term.now }
-    requires some { term.now.1 ≢ 0 }
-    requires own { own.now ≡ word_bits (F.degree field.now) word term.now }
-    requires products { AreProducts (F.degree field.now) (F.product field.now) (elements_of basis.now) word bound products.now }
-    requires ranks { products.now.ranks ≡ own.now }
-    requires start { products.now.start ≡ slice_index term.now.0.exponents word }
+    requires followed { IsFollowed (F.degree field.now) (F.product field.now) (elements_of basis.now) word term.now bound products.now }
     ensures { OnOk result (TellsTerm (F.degree field.now) (F.product field.now) (elements_of basis.now) word term.now (T.steps steps.old) (T.steps steps.new)) }
 {
     if !steps.tells() {
         return Ok(());
     }
+    let own = products.ranks();
     if has_first(term, own) {
         return tell_first(alloc, field, basis, word, term, steps);
     }

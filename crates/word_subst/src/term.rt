@@ -1,21 +1,21 @@
 //! One term with all its bits of the word read from the word.
-ghost use Rattle.std.specs.Prelude.{◌≡◌, ◌≢◌, ◌<◌, ◌^◌, slice_index, IfErr, OnOk};
+ghost use Rattle.std.specs.Prelude.{◌≡◌, ◌≢◌, ◌<◌, ◌^◌, IfErr, OnOk};
 ghost use Rattle.std.specs.List.{AllByRecursion};
 ghost use Rattle.std.specs.List.Sorted.{IsStrictlySortedBy};
 ghost use Rattle.std.specs.Map.{keys_of};
 ghost use Rattle.gf_basis.specs.BasisParts.{elements_of};
 ghost use Rattle.poly_mixed.specs.Monomial.{text_cmp};
 ghost use Rattle.poly_mixed.specs.Polynomial.{IsElement, IsTerm};
-ghost use Rattle.stage_model.specs.WordStage.{word_bits};
 ghost use Rattle.word_subst.specs.Forms.{AreForms};
 ghost use Rattle.word_subst.specs.Prefix.{AreProducts};
 ghost use Rattle.word_subst.specs.Spread.{total, IsGroup};
 ghost use Rattle.word_subst.specs.Rest.{AddsTerm};
 ghost use Rattle.word_subst.specs.ReadRefusal.{IsTermRefusal};
+ghost use Rattle.word_subst.specs.private.Reading.{IsFollowed};
 
 use crate::multiple::scaled;
 use crate::products::BitProducts;
-use crate::rest::rest;
+use crate::rest::{own_ranks, rest};
 use crate::sums::Sums;
 use crate::univariate::Univariate;
 use gf_basis::Basis;
@@ -45,8 +45,7 @@ fn restart<F: Field>(
     Ok(())
 }
 
-/// Goes on to a term, which has this number and these bits of the word. The fault is its first product of more than
-/// `bound` terms.
+/// Goes on to a term, which has this number. The fault is its first product of more than `bound` terms.
 pub fn follow_term<F: Field>(
     alloc: Global,
     field: &F,
@@ -55,7 +54,6 @@ pub fn follow_term<F: Field>(
     word: u32,
     number: u32,
     term: &Term,
-    own: &[u32],
     bound: u32,
     products: &mut BitProducts,
 ) -> Result<(), ReduceFault>
@@ -63,20 +61,18 @@ pub fn follow_term<F: Field>(
     requires forms { AreForms (F.degree field.now) (F.product field.now) (elements_of basis.now) forms.now }
     requires term { IsTerm (F.degree field.now) term.now }
     requires some { term.now.1 ≢ 0 }
-    requires own { own.now ≡ word_bits (F.degree field.now) word term.now }
     requires products { AreProducts (F.degree field.now) (F.product field.now) (elements_of basis.now) word bound products.old }
-    ensures products { OnOk result (AreProducts (F.degree field.now) (F.product field.now) (elements_of basis.now) word bound products.new) }
-    ensures ranks { OnOk result (products.new.ranks ≡ word_bits (F.degree field.now) word term.now) }
-    ensures start { OnOk result (products.new.start ≡ slice_index term.now.0.exponents word) }
+    ensures followed { OnOk result (IsFollowed (F.degree field.now) (F.product field.now) (elements_of basis.now) word term.now bound products.new) }
     ensures fault { IfErr result (IsTermRefusal (F.degree field.now) (F.product field.now) (elements_of basis.now) word term.now number bound) }
 {
     let start = term.mono().exponents()[word as usize];
     restart(alloc, field, basis, word, start, bound, products)?;
-    products.follow(alloc, field, basis, forms, word, own, number, bound)?;
+    let own = own_ranks(alloc, term.mono().bits(), field.k(), word)?;
+    products.follow(alloc, field, basis, forms, word, &own, number, bound)?;
     Ok(())
 }
 
-/// Adds a term, read from the word, to the sum of the terms before.
+/// Adds a term, read from the word by its products, to the sum of the terms before.
 pub fn add_term<F: Field>(
     alloc: Global,
     field: &F,
@@ -84,25 +80,19 @@ pub fn add_term<F: Field>(
     word: u32,
     term: &Term,
     _bound: u32,
-    own: &[u32],
     products: &BitProducts,
     sums: &mut Sums,
 ) -> Result<(), AllocError>
     requires word { word < 8 }
-    requires term { IsTerm (F.degree field.now) term.now }
-    requires some { term.now.1 ≢ 0 }
-    requires own { own.now ≡ word_bits (F.degree field.now) word term.now }
-    requires products { AreProducts (F.degree field.now) (F.product field.now) (elements_of _basis.now) word _bound products.now }
-    requires ranks { products.now.ranks ≡ own.now }
-    requires start { products.now.start ≡ slice_index term.now.0.exponents word }
+    requires followed { IsFollowed (F.degree field.now) (F.product field.now) (elements_of _basis.now) word term.now _bound products.now }
     requires groups { AllByRecursion (IsGroup word (F.degree field.now)) sums.old }
     requires few { total sums.old < 2 ^ 32 }
     ensures groups { OnOk result (AllByRecursion (IsGroup word (F.degree field.now)) sums.new) }
     ensures ordered { OnOk result (IsStrictlySortedBy text_cmp (keys_of sums.new)) }
     ensures values { OnOk result (AddsTerm (F.degree field.now) (F.product field.now) (elements_of _basis.now) word term.now sums.old sums.new) }
 {
+    let own = products.ranks();
     let part = scaled(alloc, field, products.at(own.len()), term.coefficient())?;
     let others = rest(alloc, term.mono(), field.k(), word)?;
-    sums.add(alloc, field, word, others, part)?;
-    Ok(())
+    sums.add(alloc, field, word, others, part)
 }

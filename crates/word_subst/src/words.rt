@@ -1,15 +1,13 @@
 //! All words in place of their bits.
-ghost use Rattle.std.specs.Prelude.{◌≡◌, ◌<◌, ◌≤◌, ◌^◌, length, IfOk, IfErr, OnOk};
+ghost use Rattle.std.specs.Prelude.{◌≡◌, ◌<◌, ◌^◌, length, IfOk, IfErr, OnOk};
 ghost use Rattle.gf_basis.specs.BasisParts.{IsBasisOver, elements_of};
 ghost use Rattle.poly_mixed.specs.Polynomial.{IsReduced};
 ghost use Rattle.circuit_model.specs.Bases.{AreBases, circuit_in};
-ghost use Rattle.stage_model.specs.PlainWord.{IsSumOf};
 ghost use Rattle.word_subst.specs.InWords.{IsInWordBits, IsInWords, HasValuesOfBits, AreReplaced, IsReplaceRefusal, HoldsPairs};
-ghost use Rattle.word_subst.specs.Read.{AreTermsWithin};
 ghost use Rattle.word_subst.specs.ReadRefusal.{IsWordRefusal};
-ghost use Rattle.word_subst.specs.ReadSteps.{TellsTerms};
 ghost use Rattle.word_subst.specs.WordStages.{IsWholeMix, HasStagesWithin, IsStageFault, HasPairs};
 ghost use Rattle.word_subst.specs.private.Held.{terms_of};
+ghost use Rattle.word_subst.specs.private.Reading.{ReadsWord};
 
 use crate::held::Held;
 use crate::word::one_word;
@@ -34,15 +32,11 @@ fn next_word<F: Field, T: Steps>(
     requires word { word < 8 }
     requires terms { IsReduced (F.degree field.now) (terms_of last) }
     requires few { length (terms_of last) < 2 ^ 32 }
-    ensures sum { IfOk result (λ q. IsSumOf (F.degree field.now) (F.product field.now) (elements_of basis.now) word (terms_of last) (length (terms_of last)) q.terms) }
-    ensures small { IfOk result (λ q. length q.terms ≤ bound) }
-    ensures within { OnOk result (AreTermsWithin (F.degree field.now) (F.product field.now) (elements_of basis.now) word (terms_of last) (length (terms_of last)) bound) }
+    ensures read { ReadsWord (F.degree field.now) (F.product field.now) (elements_of basis.now) word (terms_of last) bound (T.steps steps.old) (T.steps steps.new) result }
     ensures fault { IfErr result (IsWordRefusal (F.degree field.now) (F.product field.now) (elements_of basis.now) word (terms_of last) bound) }
-    ensures steps { OnOk result (TellsTerms (F.degree field.now) (F.product field.now) (elements_of basis.now) word (terms_of last) (T.steps steps.old) (T.steps steps.new)) }
 {
     let terms = last.terms(alloc)?;
-    let poly = one_word(alloc, field, basis, word, &terms, bound, steps)?;
-    Ok(poly)
+    one_word(alloc, field, basis, word, &terms, bound, steps)
 }
 
 /// The polynomial in words that has at each input's words the value that `bits` has at the input's bits.

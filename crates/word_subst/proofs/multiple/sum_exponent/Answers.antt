@@ -1,4 +1,3 @@
-use Rattle.std.proofs.Common.{◌-◌}
 use Rattle.poly_mixed.proofs.ExponentLemmas.{fits, below, wraps}
 use Rattle.word_subst.proofs.multiple.sum_exponent.Goals as goal
 
