@@ -16,7 +16,7 @@ fn set_driver(drivers: &mut Vec<Option<u32>>, out: u32, position: u32)
     drivers[out as usize] = Some(position);
 }
 
-// Of so many nets none is driven so far.
+// A list for so many nets, none of which is driven so far.
 fn no_drivers(alloc: Global, count: u32) -> Result<Vec<Option<u32>>, AllocError>
     ensures { IfOk result (λ list. list.items ≡ replicate count None) }
 {

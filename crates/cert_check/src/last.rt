@@ -17,7 +17,9 @@ use std::alloc::{AllocError, Global};
 // A generator with its monomials and its form, once they were made.
 pub(crate) struct LastGenerator {
     generator: Option<Generator>,
+    // Its monomials.
     pub(crate) near: MonoSum,
+    // Its form.
     pub(crate) form: Option<Form>,
 }
 

@@ -83,10 +83,6 @@ smaller k words small =
     let fewer : k * (words - 1) ≤ k * words = mul-le-mul_left k less in
     record { bits = small.bits; rows = omega (arith, fewer, small.rows) }
 
-zero_elements : (k n : ℕ) → AllByRecursion (IsElement k) (replicate n 0)
-zero_elements k zero = tt
-zero_elements k (suc n) = (pow_pos k, zero_elements k n)
-
 zero_at : (n v : ℕ) → ◌≡◌ {A = ℕ} (get_or (replicate n 0) v 0) 0
 zero_at zero zero = refl
 zero_at zero (suc v) = refl
@@ -94,7 +90,9 @@ zero_at (suc n) zero = refl
 zero_at (suc n) (suc v) = zero_at n v
 
 pub whole_part : (k words : ℕ) (table : List ℕ) → IsSmall k words → words ≤ 8 → length table ≡ 2 ^ (k * words) → AreElements k table → IsPart k words (replicate 8 0) table
-whole_part k words table small few long elements = record { small = small; few = few; long = long; elements = elements; raised = zero_elements k 8; zeros = λ v less. zero_at 8 v }
+whole_part k words table small few long elements =
+    let element : 0 < 2 ^ k = pow_pos k in
+    record { small = small; few = few; long = long; elements = elements; raised = (element, element, element, element, element, element, element, element, tt); zeros = λ v less. zero_at 8 v }
 
 raised_set : (k : ℕ) (es : List ℕ) (w e : ℕ) → AllByRecursion (IsElement k) es → IsElement k e → AllByRecursion (IsElement k) (set es w e)
 raised_set k [] zero e each small = tt

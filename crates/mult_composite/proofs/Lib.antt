@@ -4,7 +4,6 @@ pub mod SumLemmas
 pub mod ShapeLemmas
 pub mod RoomLemmas
 pub mod ListLemmas
-pub mod FormLemmas
 pub mod TwoLemmas
 pub mod MadeLemmas
 pub mod Examples

@@ -84,8 +84,8 @@ impl<'a> OpenModel<'a> {
         self.cover.row_at(text)
     }
 
-    /// Ends the cover just begun, if one is open, which is then a gate.
-    pub fn close(&mut self) -> Result<(), AllocError>
+    // Ends the cover just begun, if one is open, which is then a gate.
+    fn close(&mut self) -> Result<(), AllocError>
         ensures { OnOk result (self.new ≡ with_items [] None self.old) }
     {
         if self.is_open {

@@ -5,7 +5,7 @@ ghost use Rattle.indexmap.specs.IndexMap.{get_by_text};
 
 use indexmap::IndexMap;
 use net_core::KeyedHash;
-use std::alloc::{AllocError, Global};
+use std::alloc::AllocError;
 
 /// Texts, looked up by a hash whose key is made of the file, so that texts that collide cannot be looked for.
 pub type Seen = IndexMap<String, u32, KeyedHash>;

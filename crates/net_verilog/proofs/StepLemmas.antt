@@ -1,5 +1,5 @@
 -- The steps of the reader of expressions as its functions make them.
-use Rattle.std.proofs.Common.{◌≡◌, ◌⊎◌, ◌∙◌, inl, inr, ap, sym, refl, subst, ℕ, ◌<◌, ◌≤◌, Bool, List, [], ◌∷◌, drop, Option, None, Ok, Err, Some, arith}
+use Rattle.std.proofs.Common.{◌≡◌, ◌⊎◌, ◌∙◌, inl, inr, ap, sym, subst, ℕ, ◌<◌, ◌≤◌, Bool, List, [], ◌∷◌, drop, Option, None, Ok, Err, Some, arith}
 use Rattle.std.specs.Prelude.{if◌then◌else◌}
 use Rattle.std.proofs.lemmas.Bool.{le-leb}
 use Rattle.net_core.specs.NetList.{NetList, nets}

@@ -28,6 +28,7 @@ fn is_plain_keyword(word: &[u8]) -> bool
         || word == b"assign".as_slice()
 }
 
+/// Whether a word is a keyword.
 pub fn is_keyword(word: &[u8]) -> bool
     ensures { result ≡ keyword_is word.now }
 {

@@ -68,7 +68,7 @@ impl Index {
         self.lists.of(bit)
     }
 
-    // Puts the same monomial anew into an empty slot. After running out of memory the index is not used again.
+    // Puts a copy of a monomial into an empty slot. After running out of memory the index is not used again.
     pub(crate) fn put(&mut self, mono: &Mono) -> Result<usize, AllocError>
         ensures empty { IfOk result (λ slot. slot_at self.old slot ≡ None) }
         ensures holds { IfOk result (λ slot. Changes self.old self.new slot (Some mono.now)) }

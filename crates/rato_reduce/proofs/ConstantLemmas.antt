@@ -11,7 +11,7 @@ use Rattle.std.specs.Ordering.{nat_cmp, ordering_then, ordering_reverse, match_o
 use Rattle.poly_mixed.specs.Monomial.{text_cmp}
 use Rattle.poly_mixed.specs.Polynomial.{Terms}
 use Rattle.poly_mixed.specs.Cofactor.{LacksBit}
-use Rattle.poly_mixed.specs.Sum.{with_coefficient, plus_term, plus}
+use Rattle.poly_mixed.specs.Sum.{with_coefficient, plus_term}
 use Rattle.poly_mixed.proofs.TermLemmas.{all_plus_term}
 use Rattle.rato_reduce.specs.private.CutKey.{CutKey, key_of, no_bits, key_cmp, key_cmp_total}
 use Rattle.rato_reduce.specs.private.CutTerms.{of_bits, term_of, cut_polynomial, with_constant, IsEntry, AreEntries, AreBitEntries}

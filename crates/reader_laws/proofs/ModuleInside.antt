@@ -6,7 +6,6 @@ use Rattle.std.proofs.lemmas.Bool.{eqb-true, leb-true}
 use Rattle.std.proofs.lemmas.List.Elements.{All-push}
 use Rattle.lists.specs.laws.BoolLaws.{both_true}
 use Rattle.lists.specs.laws.ListLaws.{some_after}
-use Rattle.lists.specs.laws.PowerLaws.{pow_twice}
 use Rattle.outcome.specs.Outcome.{◌>>=◌, Exactly}
 use Rattle.net_core.specs.NetList.{NetList, empty, nets}
 use Rattle.net_core.specs.Inside.{IsInside, IsNetName}
@@ -20,7 +19,7 @@ use Rattle.net_verilog.specs.Expression.{Expression, Read}
 use Rattle.net_verilog.specs.Parts.{identified, identifier, is_close}
 use Rattle.net_verilog.specs.Assigns.{Assigns, Reads, net_fault}
 use Rattle.net_verilog.specs.Several.{Either, Several, SeveralOf, after_first, comma_first}
-use Rattle.net_verilog.specs.Instances.{ReadsInput, ReadsInstance, fits_gate, gate_is_one, gate_table, ones_of, placed, table_below}
+use Rattle.net_verilog.specs.Instances.{ReadsInput, ReadsInstance, fits_gate, gate_table, placed}
 use Rattle.net_verilog.specs.Declarations.{Declarations, Range, bit_name, declared_as, is_directed, undeclared, was_directed}
 use Rattle.net_verilog.specs.declared.declared.Declared.{Declared}
 use Rattle.net_verilog.specs.declared.declared.Direction.{Direction}
@@ -30,6 +29,7 @@ use Rattle.net_verilog.specs.declared.gate_kind.GateKind.TheVariants as gates
 use Rattle.net_verilog.specs.declared.fault.VerilogFault.{VerilogFault}
 use Rattle.net_verilog.specs.declared.fault.VerilogFault.TheVariants as faults
 use Rattle.net_verilog.specs.private.Gates.{IsDriverOn}
+use Rattle.net_verilog.proofs.GateTableLemmas.{few_rows}
 use Rattle.net_verilog.proofs.OpenLemmas.{value_before}
 use Rattle.net_verilog.proofs.TableLemmas.{names_kept}
 use Rattle.verilog_reader.specs.Declares.{Declares, HasShortNames, ReadsName, bits_from, net_names, ported, with_port, with_port_named, with_ports}
@@ -93,15 +93,6 @@ module _ (declared : Declarations) (names : HasNetNames declared) where
         on = All-push (λ (n : ℕ). n < nets net.0) so_far.1 net.1 (all_wider (nets so_far.0) (nets net.0) so_far.1 whole.wider are.on) second.1;
       })
 
--- the table of a gate has bits for its inputs alone
-table_low : (kind : GateKind) (inputs m : ℕ) → table_below kind inputs m < 2 ^ m
-table_low kind inputs zero = omega arith
-table_low kind inputs (suc m) = by (table_low kind inputs m) (gate_is_one kind inputs (ones_of inputs m))
-  where
-    by : table_below kind inputs m < 2 ^ m → (b : Bool) → table_below kind inputs m + cond b (2 ^ m) 0 < 2 ^ suc m
-    by low true = omega (arith, low, pow_twice m)
-    by low false = omega (arith, low, pow_twice m)
-
 few_inputs : (kind : GateKind) (n : ℕ) → fits_gate kind n ≡ true → n ≤ 6
 few_inputs gates.Not n is = let one = eqb-true n 1 is in omega (arith, one)
 few_inputs gates.Buf n is = let one = eqb-true n 1 is in omega (arith, one)
@@ -117,7 +108,7 @@ placed_inside kind net more out inputs line inside below on is = by (fits_gate k
   where
     by : (b : Bool) → fits_gate kind (length inputs) ≡ b → ◌≡◌ {A = Result NetList VerilogFault} (Ok more) (cond b (net_fault (with_gate_of net out inputs (gate_table kind (length inputs)))) (Err (faults.Arity line (length inputs)))) → IsInside more
     by true e h =
-        (gate_fits net more out inputs (gate_table kind (length inputs)) inside (below, on, few_inputs kind (length inputs) e, table_low kind (length inputs) (2 ^ length inputs)) (net_value (with_gate_of net out inputs (gate_table kind (length inputs))) more h)).inside
+        (gate_fits net more out inputs (gate_table kind (length inputs)) inside (below, on, few_inputs kind (length inputs) e, few_rows kind (length inputs) (gate_table kind (length inputs)) refl) (net_value (with_gate_of net out inputs (gate_table kind (length inputs))) more h)).inside
     by false e h = absurd (cc)
 
 instance_inside : (declared : Declarations) (kind : GateKind) → HasNetNames declared → (net : NetList) (tokens : List TokenValue) (found : NetList × List TokenValue) → IsInside net → ReadsInstance declared kind net tokens (Ok found) → IsInside found.0

@@ -63,7 +63,7 @@ module _ (k : ℕ) (mul : ℕ → ℕ → ℕ) (elements : List ℕ) (w : ℕ) (
   product_first n t (TooManyTerms (InstanceSum i s) m) at before is = absurd is
   product_first n t OutOfMemory at before is = tt
 
-  pub sum_first : (n : ℕ) (t : Monomial × ℕ) (sum : Terms) (fault : ReduceFault) → slice_get terms n ≡ Some t → AreTermsWithin k mul elements w terms n bound → IsTermWithin k mul elements w t bound → IsSumOf k mul elements w terms (n + 1) sum
+  sum_first : (n : ℕ) (t : Monomial × ℕ) (sum : Terms) (fault : ReduceFault) → slice_get terms n ≡ Some t → AreTermsWithin k mul elements w terms n bound → IsTermWithin k mul elements w t bound → IsSumOf k mul elements w terms (n + 1) sum
       → bound < length sum → fault ≡ TooManyTerms (WordSum w (n + 1)) (length sum) → IsWordRefusal k mul elements w terms bound fault
   sum_first n t sum fault at before term is over same =
       let P : ReduceFault → Type 0 = IsWordRefusal k mul elements w terms bound in

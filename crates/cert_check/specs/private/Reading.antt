@@ -58,10 +58,14 @@ abbrev pub multiplier_in : List Terms → Multiplier → Terms
 multiplier_in shared (multiplier.Own p) = p.terms
 multiplier_in shared (multiplier.Shared n) = get_or shared n []
 
+-- the multiplier of this number, where so many are shared
+abbrev pub multiplier_numbered : ℕ → ℕ → Result Multiplier LineFault
+multiplier_numbered count n = cond (nat_lt n count) (Ok (multiplier.Shared n)) (Err own.NoSuchLet)
+
 -- the multiplier whose number stands first, with nothing after it, where so many are shared
 abbrev pub multiplier_named : ℕ → Option (List ℕ × List ℕ) → Result Multiplier LineFault
 multiplier_named count None = Err own.Syntax
-multiplier_named count (Some found) = cond (is_blank found.1) (cond (nat_lt (value_of 10 found.0) count) (Ok (multiplier.Shared (value_of 10 found.0))) (Err own.NoSuchLet)) (Err own.Syntax)
+multiplier_named count (Some found) = cond (is_blank found.1) (multiplier_numbered count (value_of 10 found.0)) (Err own.Syntax)
 
 abbrev pub line_in : List Terms → Line → Said
 line_in shared (line.Pair g m) = pairs g (multiplier_in shared m)

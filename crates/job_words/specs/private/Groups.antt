@@ -31,6 +31,7 @@ IsFurtherAction (Make kind) = Unit {0}
 IsFurtherAction (Compose net terms) = Unit {0}
 IsFurtherAction action = IsLaterAction action
 
+-- a job of such a command
 abbrev pub IsFurther : Job → Type 0
 IsFurther (Over signature action) = IsFurtherAction action
 IsFurther (Trial number modulus terms) = ⊥

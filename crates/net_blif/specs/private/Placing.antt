@@ -6,7 +6,7 @@ use Rattle.net_blif.specs.declared.item.Item.TheVariants as items
 use Rattle.net_blif.specs.declared.statement.Statement.{Statement}
 use Rattle.net_blif.specs.declared.statement.Statement.TheVariants.{Model, Inputs, Outputs, Cover, Latch, Instance, Row, End, Other}
 
--- any other statement places nothing
+-- the item that a line of nets, of a latch or of an instance says; any other statement places nothing
 abbrev pub items_said : ℕ → Statement → List Item
 items_said n (Inputs nets) = items.Inputs nets ∷ []
 items_said n (Outputs nets) = items.Outputs nets ∷ []

@@ -1,4 +1,4 @@
-use Rattle.std.proofs.Common.{◌<◌, ◌≤◌, arith, inl, inr, length, sym}
+use Rattle.std.proofs.Common.{◌≤◌, arith, inl, inr, length, sym}
 use Rattle.std.proofs.lemmas.Result.{IfErr-weaker, IfOk-weaker}
 use Rattle.net_verilog.specs.private.Places.{left}
 use Rattle.net_verilog.proofs.AfterLemmas.{over}
