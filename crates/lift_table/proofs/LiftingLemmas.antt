@@ -92,7 +92,7 @@ zero_at (suc n) (suc v) = zero_at n v
 pub whole_part : (k words : ℕ) (table : List ℕ) → IsSmall k words → words ≤ 8 → length table ≡ 2 ^ (k * words) → AreElements k table → IsPart k words (replicate 8 0) table
 whole_part k words table small few long elements =
     let element : 0 < 2 ^ k = pow_pos k in
-    record { small = small; few = few; long = long; elements = elements; raised = (element, element, element, element, element, element, element, element, tt); zeros = λ v less. zero_at 8 v }
+    record { small = small; few = few; long = long; elements = elements; raised = (element, (element, (element, (element, (element, (element, (element, (element, tt)))))))); zeros = λ v less. zero_at 8 v }
 
 raised_set : (k : ℕ) (es : List ℕ) (w e : ℕ) → AllByRecursion (IsElement k) es → IsElement k e → AllByRecursion (IsElement k) (set es w e)
 raised_set k [] zero e each small = tt
