@@ -116,6 +116,7 @@ impl NetMaker {
         ensures made { OnOk result (self.new ≡ with_label self.old label.now false) }
         ensures room { OnOk result (IsFull self.old → ⊥) }
         ensures full { IsErrOf result NetFault.TooManyNets → IsFull self.old }
+        ensures told { IsFull self.old → IsErrOf result NetFault.TooManyNets }
         ensures only { IfErr result (λ fault. (fault ≡ NetFault.TooManyNets) ⊎ (fault ≡ NetFault.OutOfMemory)) }
         ensures unchanged { OnErr result (self.new ≡ self.old) }
     {
@@ -158,6 +159,7 @@ impl NetMaker {
         ensures made { OnOk result (self.new ≡ with_gate self.old (record { out = out; inputs = inputs.now; table = table })) }
         ensures room { OnOk result (HasNoMoreGates self.old → ⊥) }
         ensures full { IsErrOf result NetFault.TooManyGates → HasNoMoreGates self.old }
+        ensures told { HasNoMoreGates self.old → IsErrOf result NetFault.TooManyGates }
         ensures only { IfErr result (λ fault. (fault ≡ NetFault.TooManyGates) ⊎ (fault ≡ NetFault.OutOfMemory)) }
         ensures unchanged { OnErr result (self.new ≡ self.old) }
     {
@@ -177,6 +179,7 @@ impl NetMaker {
         ensures made { OnOk result (self.new ≡ with_latch self.old (record { next = next; out = out; start = start })) }
         ensures room { OnOk result (HasNoMoreGates self.old → ⊥) }
         ensures full { IsErrOf result NetFault.TooManyGates → HasNoMoreGates self.old }
+        ensures told { HasNoMoreGates self.old → IsErrOf result NetFault.TooManyGates }
         ensures only { IfErr result (λ fault. (fault ≡ NetFault.TooManyGates) ⊎ (fault ≡ NetFault.OutOfMemory)) }
         ensures unchanged { OnErr result (self.new ≡ self.old) }
     {
