@@ -364,7 +364,8 @@ fn is_uncovered(
 
 // Refuses the first latch with an unknown start that is in no state word.
 fn check_started(words: &[BoundWord], latches: &[Latch]) -> Result<(), BindFault>
-    ensures { FitsBinding (λ u. tt) result (Returns (started words.now latches.now)) }
+    ensures fits { FitsBinding (λ u. tt) result (Returns (started words.now latches.now)) }
+    ensures is { result ≡ started words.now latches.now }
 {
     for latch in latches {
         if is_unknown(latch.start) && !in_word(Role::State, words, latch.out) {

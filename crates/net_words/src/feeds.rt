@@ -60,7 +60,8 @@ fn feed_net(
 ) -> Result<u32, BindFault>
     requires inputs { AreMarks (nets net.now) (stands_in net.now.inputs) inputs.now }
     requires held { AreMarks (nets net.now) (in_word Input _words.now) held.now }
-    ensures { FitsBinding (λ n. n) result (Returns (free_net net.now _words.now feed.now.line (number_of net.now feed.now.net))) }
+    ensures fits { FitsBinding (λ n. n) result (Returns (free_net net.now _words.now feed.now.line (number_of net.now feed.now.net))) }
+    ensures is { result ≡ free_net net.now _words.now feed.now.line (number_of net.now feed.now.net) }
 {
     let fault = BindFault::FeedNotFree { line: feed.line };
     match net.find(feed.net.as_str()) {

@@ -16,7 +16,7 @@ returns-in-Err-check_started c =
     (rw c.requires.taken at c.in-Ok.ensures.fits)
     (rw c.deref.ensures.value at c.in-Ok-bind_feeds.ensures.fits)
     (rw (c.deref-2.ensures.value, c.deref-3.ensures.value) at c.in-Ok-check_covered.ensures)
-    (rw (c.deref-4.ensures.value, c.requires.held) at c.in-Err-check_started.ensures)
+    (rw (c.deref-4.ensures.value, c.requires.held) at c.in-Err-check_started.ensures.fits)
 
 pub ordered-requires : goal.ordered-requires
 ordered-requires c =
