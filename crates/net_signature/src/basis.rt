@@ -1,9 +1,10 @@
 //! The basis of a word, as its token says it.
-ghost use Rattle.std.specs.Prelude.{◌≡◌, ◌==◌, ◌++◌, ℕ, List, map, IfOk, IfSome, IfNone};
+ghost use Rattle.std.specs.Prelude.{◌≡◌, ◌≢◌, ◌==◌, ◌++◌, ℕ, List, map, IfOk, IfErr, IfSome, IfNone};
 ghost use Rattle.std.specs.List.{slice_split};
 ghost use Rattle.net_signature.specs.Statement.{SaysBasis, IsNormalOf, IsListOf};
 ghost use Rattle.net_signature.specs.Outcomes.{OrSyntax};
 ghost use Rattle.net_signature.specs.Reading.{Fits};
+ghost use Rattle.net_signature.specs.declared.fault.SigFault.TheVariants.{OutOfMemory};
 
 use crate::element::{read_element, read_elements};
 use crate::fault::SigFault;
@@ -40,7 +41,8 @@ fn after<'a>(token: &'a [u8], front: &[u8]) -> Option<&'a [u8]>
 
 // The normal basis of an element.
 fn normal(number: u32, token: &[u8]) -> Result<BasisText, SigFault>
-    ensures { Fits (λ basis. basis) result (OrSyntax number (IsNormalOf token.now)) }
+    ensures fits { Fits (λ basis. basis) result (OrSyntax number (IsNormalOf token.now)) }
+    ensures no_memory { IfErr result (λ fault. fault ≢ OutOfMemory) }
 {
     match read_element(token) {
         Some(gamma) => Ok(BasisText::Normal { gamma }),

@@ -214,7 +214,8 @@ impl Body {
 // The source that a line says, where the word that it names is one of these and fed.
 fn source_of(words: &[WordText], line: u32, source: &SourceText) -> Result<Source, SigFault>
     requires { length words.now ≤ 9 }
-    ensures { Fits (λ source. source) result (Returns (source_in words.now line source.now)) }
+    ensures fits { Fits (λ source. source) result (Returns (source_in words.now line source.now)) }
+    ensures is { result ≡ source_in words.now line source.now }
 {
     match source {
         SourceText::Zero => Ok(Source::Zero),

@@ -1,5 +1,5 @@
 //! The lines of a signature before its words: the version, the field and the towers.
-ghost use Rattle.std.specs.Prelude.{◌≡◌, ◌&&◌, [], ◌∷◌, map, IfOk, IfErr};
+ghost use Rattle.std.specs.Prelude.{◌≡◌, ◌≢◌, ◌&&◌, [], ◌∷◌, map, IfOk, IfErr};
 ghost use Rattle.net_signature.specs.Statement.{SaysVersion, SaysField, SaysTower};
 ghost use Rattle.net_signature.specs.Outcomes.{OrSyntax, Says, Next, tower_comes as comes_tower, begins_tower as begins_a_tower};
 ghost use Rattle.net_signature.specs.Signature.{TowerIf};
@@ -27,7 +27,8 @@ pub fn read_version(lines: &mut Lines) -> Result<Version, SigFault>
 
 // The version that a line says.
 fn version_of(line: &Statement) -> Result<Version, SigFault>
-    ensures { Fits (λ version. version) result (Says (line_of line.now) SaysVersion) }
+    ensures fits { Fits (λ version. version) result (Says (line_of line.now) SaysVersion) }
+    ensures no_memory { IfErr result (λ fault. fault ≢ OutOfMemory) }
 {
     match line.tokens.as_slice() {
         [keyword, number] => version_from(line.number, keyword, number),
@@ -37,7 +38,8 @@ fn version_of(line: &Statement) -> Result<Version, SigFault>
 
 // The version that two tokens of a line say.
 fn version_from(line: u32, keyword: &[u8], number: &[u8]) -> Result<Version, SigFault>
-    ensures { Fits (λ version. version) result (OrSyntax line (SaysVersion (keyword.now ∷ number.now ∷ []))) }
+    ensures fits { Fits (λ version. version) result (OrSyntax line (SaysVersion (keyword.now ∷ number.now ∷ []))) }
+    ensures no_memory { IfErr result (λ fault. fault ≢ OutOfMemory) }
 {
     if is_token(keyword, b"gfsig") && is_token(number, b"1") {
         Ok(Version::One)
@@ -61,7 +63,8 @@ pub fn read_field(lines: &mut Lines) -> Result<u128, SigFault>
 
 // The modulus that a line says.
 fn field_of(line: &Statement) -> Result<u128, SigFault>
-    ensures { Fits (λ modulus. modulus) result (Says (line_of line.now) SaysField) }
+    ensures fits { Fits (λ modulus. modulus) result (Says (line_of line.now) SaysField) }
+    ensures no_memory { IfErr result (λ fault. fault ≢ OutOfMemory) }
 {
     match line.tokens.as_slice() {
         [keyword, modulus] => field_from(line.number, keyword, modulus),
@@ -71,7 +74,8 @@ fn field_of(line: &Statement) -> Result<u128, SigFault>
 
 // The modulus that two tokens of a line say.
 fn field_from(number: u32, keyword: &[u8], modulus: &[u8]) -> Result<u128, SigFault>
-    ensures { Fits (λ modulus. modulus) result (OrSyntax number (SaysField (keyword.now ∷ modulus.now ∷ []))) }
+    ensures fits { Fits (λ modulus. modulus) result (OrSyntax number (SaysField (keyword.now ∷ modulus.now ∷ []))) }
+    ensures no_memory { IfErr result (λ fault. fault ≢ OutOfMemory) }
 {
     if !is_token(keyword, b"field") {
         return Err(SigFault::Syntax { line: number });

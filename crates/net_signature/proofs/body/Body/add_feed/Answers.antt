@@ -20,4 +20,4 @@ returns-in-Ok c =
     let after : BodyValue → Unit {0} → BodyValue = λ b u. record b { feeds = view u } in
     let Q : Result Source SigFault → Type 0 = λ from. Fits (after inside) c.add.result (Returns (fed_with inside c.args.line c.args.feed from)) in
     let P : BodyValue → Type 0 = λ b. Fits (after inside) c.add.result (Returns (fed_with b c.args.line c.args.feed (source_of b.words c.args.line c.args.feed.source))) in
-    subst P c.self.view_is (subst Q (rw c.deref.ensures.value at c.in-Ok.ensures) (fits_with (λ (feeds : List FeedText). record inside { feeds = feeds }) view c.add.result (with_feed inside.feeds text) c.add.ensures))
+    subst P c.self.view_is (subst Q (rw c.deref.ensures.value at c.in-Ok.ensures.fits) (fits_with (λ (feeds : List FeedText). record inside { feeds = feeds }) view c.add.result (with_feed inside.feeds text) c.add.ensures))
