@@ -1,5 +1,5 @@
 //! Numbers of the names of a model, walk after walk.
-ghost use Rattle.std.specs.Prelude.{◌≡◌, OnOk, option_and_then};
+ghost use Rattle.std.specs.Prelude.{◌≡◌, ◌+◌, ◌^◌, OnOk, OnErr, option_and_then};
 ghost use Rattle.text_core.specs.Lines.{IsPrinting};
 ghost use Rattle.net_blif.specs.Table.{no_numbers, with_number};
 ghost use Rattle.net_flat.specs.private.KnownNumbers.{known_in, HasPlace};
@@ -44,9 +44,11 @@ impl KnownNames {
         }
     }
 
-    /// Before the next walk: no name has a number.
+    /// Before the next walk: no name has a number. It takes no memory, and fails only before walk 2^32.
     pub fn begin(&mut self) -> Result<(), AllocError>
-        ensures { OnOk result (known_in self.new ≡ no_numbers) }
+        ensures numbers { OnOk result (known_in self.new ≡ no_numbers) }
+        ensures next { OnOk result (self.new.walk ≡ self.old.walk + 1) }
+        ensures last { OnErr result (self.old.walk + 1 ≡ 2 ^ 32) }
     {
         let Some(walk) = self.walk.checked_add(1) else {
             return Err(AllocError);

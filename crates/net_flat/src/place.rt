@@ -1,5 +1,5 @@
 //! What lines place: ports, gates, latches, and what is connected to instances.
-ghost use Rattle.std.specs.Prelude.{◌≡◌, ◌<◌, ◌≤◌, ◌^◌, ◌∷◌, Ok, Some, All, IsTrue, IfOk, IfErr, OnOk, flat_map, map, length};
+ghost use Rattle.std.specs.Prelude.{◌≡◌, ◌<◌, ◌≤◌, ◌^◌, ◌∷◌, Ok, Err, Some, All, IsTrue, IfOk, IfErr, OnOk, flat_map, map, length};
 ghost use Rattle.std.specs.List.{list_all};
 ghost use Rattle.net_blif.specs.Connection.{actual_of, is_connection};
 ghost use Rattle.net_blif.specs.Statement.{IsToken};
@@ -138,6 +138,7 @@ impl<'a> Walker<'a> {
         ensures made { OnOk result (local_step (state_of self.old) Enter ≡ Ok (state_of self.new)) }
         ensures inside { OnOk result (AreInside (state_of self.new)) }
         ensures fault { IfErr result (IsFaultOf (local_step (state_of self.old) Enter)) }
+        ensures told { IfErr result (λ fault. local_step (state_of self.old) Enter ≡ Err fault) }
     {
         if self.instances >= MAX_INSTANCES {
             return Err(Stop {
