@@ -1,10 +1,10 @@
 //! A polynomial from its text.
-ghost use Rattle.std.specs.Prelude.{◌≡◌, ◌==◌, ◌&&◌, ℕ, ◌≤◌, [], length, nat_lt, OnOk, IfOk, IfErr, Ok};
+ghost use Rattle.std.specs.Prelude.{◌≡◌, ◌==◌, ◌&&◌, ℕ, ◌≤◌, [], length, nat_lt, OnOk, IfOk, IfErr, IsOkUnless, Ok};
 ghost use Rattle.outcome.specs.Outcome.{Fits};
 ghost use Rattle.poly_mixed.specs.Said.{added, one};
 ghost use Rattle.poly_mixed.specs.private.Reading.{reading, with_variable, next_at, factor_at, after_zero, coefficient_at, zero_at, term_at, advanced, IsSaid};
 ghost use Rattle.text_core.specs.Scan.{run, is_hex_digit};
-ghost use Rattle.poly_mixed.specs.private.ReadingState.{IsStep, IsAdded, IsFresh, IsFreshAfter, progress};
+ghost use Rattle.poly_mixed.specs.private.ReadingState.{IsStep, IsAdded, IsFresh, IsFreshAfter, RefusesAs, progress};
 ghost use Rattle.poly_mixed.specs.Polynomial.{Terms, IsReduced};
 ghost use Rattle.poly_mixed.specs.TextOutcome.{text_fault, TextOutcome};
 ghost use Rattle.poly_mixed.specs.Monomial.{Monomial};
@@ -208,9 +208,10 @@ fn is_coefficient(first: u8, digits: &[u8]) -> bool
     first == b'x' && !front(digits, Class::HexDigit).is_empty()
 }
 
-// What stands after the term `0`.
+// What stands after the term `0`. It takes no memory.
 fn after_term_0(bytes: &[u8]) -> Result<Next<'_>, PolyFault>
-    ensures { (sum : Terms) (c : ℕ) (m : Monomial) → c ≡ 1 → m ≡ one → IsStep (after_zero sum bytes.now) sum c m result × IsFreshAfter result c m }
+    ensures step { (sum : Terms) (c : ℕ) (m : Monomial) → c ≡ 1 → m ≡ one → IsStep (after_zero sum bytes.now) sum c m result × IsFreshAfter result c m }
+    ensures fault { IsOkUnless result PolyFault.Syntax }
 {
     match bytes {
         [] => Ok(Next::Done),
@@ -219,7 +220,7 @@ fn after_term_0(bytes: &[u8]) -> Result<Next<'_>, PolyFault>
     }
 }
 
-// Puts a word into a monomial that lacks it, with the exponent that stands after it.
+// Puts a word into a monomial that lacks it, with the exponent that stands after it. It takes no memory.
 fn add_word<'a>(
     mono: &mut Mono,
     k: u32,
@@ -227,7 +228,8 @@ fn add_word<'a>(
     bytes: &'a [u8],
 ) -> Result<&'a [u8], PolyFault>
     requires { (1 ≤ k) × (k ≤ 64) }
-    ensures { IsAdded (with_variable k mono.old (Ok (Variable.Word word, bytes.now))) mono.new result }
+    ensures added { IsAdded (with_variable k mono.old (Ok (Variable.Word word, bytes.now))) mono.new result }
+    ensures fault { RefusesAs (with_variable k mono.old (Ok (Variable.Word word, bytes.now))) result }
 {
     if word >= 8 || mono.exponents()[word] != 0 {
         return Err(PolyFault::Syntax);

@@ -22,6 +22,11 @@ abbrev pub IsAdded : Scanned Monomial → Monomial → Result (Bor (List ℕ)) P
 IsAdded said m (Ok rest) = said ≡ Ok (m, rest.now)
 IsAdded said m (Err e) = IsSaid said e
 
+-- a fault is just what was said, and never out of memory
+abbrev pub RefusesAs : {A B : Type 0} → Result A PolyFault → Result B PolyFault → Type 0
+RefusesAs said (Ok value) = Unit {0}
+RefusesAs said (Err e) = said ≡ Err e
+
 -- where a term is to come, the one that is read is new
 abbrev pub IsFresh : Next → ℕ → Monomial → Type 0
 IsFresh Done c m = Unit {0}
