@@ -7,7 +7,7 @@ ghost use Rattle.spec_text.specs.declared.reader.Next.{Next};
 ghost use Rattle.spec_text.specs.Fault.{SpecOutcome};
 ghost use Rattle.spec_expand.specs.Specification.{IsOverWords};
 ghost use Rattle.spec_text.specs.private.Scanning.{IsSeen};
-ghost use Rattle.spec_text.specs.private.Progress.{closed, name_read, number_read, exponent_read, fitting, hex_read, decimal_read, times_read, plus_read, token_read, end_read, IsEnd, StepsTo, so_far};
+ghost use Rattle.spec_text.specs.private.Progress.{closed, name_read, number_read, exponent_read, fitting, hex_read, decimal_read, times_read, plus_read, token_read, end_read, IsEnd, RefusesAs, StepsTo, so_far};
 
 use crate::fault::SpecFault;
 use crate::scan::{Scanned, token};
@@ -53,9 +53,10 @@ impl Reading {
         Ok(())
     }
 
-    // A name: the output word's on the left, and else an input, state or fed word's.
+    // A name: the output word's on the left, and else an input, state or fed word's. It takes no memory.
     fn name(&self, labels: &Labels, next: Next, name: &[u8], place: u32) -> Result<Next, SpecFault>
-        ensures { StepsTo (name_read labels.now next (so_far self.now next) name.now place) self.now result }
+        ensures step { StepsTo (name_read labels.now next (so_far self.now next) name.now place) self.now result }
+        ensures fault { RefusesAs (name_read labels.now next (so_far self.now next) name.now place) result }
     {
         match next {
             Next::Output => {
@@ -73,7 +74,7 @@ impl Reading {
         }
     }
 
-    // A number as a factor, where it fits.
+    // A number as a factor, where it fits. It takes no memory.
     fn number<F: Field>(
         &mut self,
         field: &F,
@@ -82,7 +83,8 @@ impl Reading {
     ) -> Result<Next, SpecFault>
         requires element { self.old.coefficient < 2 ^ F.degree field.now }
         requires fits { IfSome value (λ n. n < 2 ^ F.degree field.now) }
-        ensures { (next : Next) (said : Option ℕ) → value ≡ said → StepsTo (number_read (F.product field.now) said (so_far self.old next) place) self.new result }
+        ensures step { (next : Next) (said : Option ℕ) → value ≡ said → StepsTo (number_read (F.product field.now) said (so_far self.old next) place) self.new result }
+        ensures fault { (next : Next) (said : Option ℕ) → value ≡ said → RefusesAs (number_read (F.product field.now) said (so_far self.old next) place) result }
     {
         match value {
             Some(n) => {
@@ -106,7 +108,7 @@ impl Reading {
         }
     }
 
-    // A hexadecimal number: an element of the field.
+    // A hexadecimal number: an element of the field. It takes no memory.
     fn hex<F: Field>(
         &mut self,
         field: &F,
@@ -115,7 +117,8 @@ impl Reading {
         place: u32,
     ) -> Result<Next, SpecFault>
         requires { self.old.coefficient < 2 ^ F.degree field.now }
-        ensures { (n : ℕ) → IsValue value n → StepsTo (hex_read (F.degree field.now) (F.product field.now) next (so_far self.old next) n place) self.new result }
+        ensures step { (n : ℕ) → IsValue value n → StepsTo (hex_read (F.degree field.now) (F.product field.now) next (so_far self.old next) n place) self.new result }
+        ensures fault { (n : ℕ) → IsValue value n → RefusesAs (hex_read (F.degree field.now) (F.product field.now) next (so_far self.old next) n place) result }
     {
         match next {
             Next::Factor => self.number(field, element_in(field, value), place),

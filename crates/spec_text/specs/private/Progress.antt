@@ -160,3 +160,8 @@ so_far reading next = progress next reading.terms.items reading.coefficient read
 -- what a step gives, and what was read after it, is what was said
 abbrev pub StepsTo : Read → Reading → Result Next SpecFault → Type 0
 StepsTo said reading result = IsStep said reading.terms.items reading.coefficient reading.powers.items result
+
+-- a fault is just what was said, and never out of memory
+abbrev pub RefusesAs : Read → Result Next SpecFault → Type 0
+RefusesAs said (Ok n) = Unit {0}
+RefusesAs said (Err e) = said ≡ Err e

@@ -6,7 +6,7 @@ use Rattle.spec_text.proofs.reader.Reading.decimal.Goals as goal
 pub returns-in-Factor : goal.returns-in-Factor
 returns-in-Factor g c = λ n is.
     let ts = c.args.self.now.terms.items in
-    let said : IsStep (number_read (g.F.Ring.product c.args.field.now) (fitting (nat_le n 1) n) (progress Factor ts c.args.self.now.coefficient c.args.self.now.powers.items) c.args.place) c.number.new.self.terms.items c.number.new.self.coefficient c.number.new.self.powers.items c.number.result = c.number.ensures Factor _ (c.bit_in.ensures.fits n is) in
+    let said : IsStep (number_read (g.F.Ring.product c.args.field.now) (fitting (nat_le n 1) n) (progress Factor ts c.args.self.now.coefficient c.args.self.now.powers.items) c.args.place) c.number.new.self.terms.items c.number.new.self.coefficient c.number.new.self.powers.items c.number.result = c.number.ensures.step Factor _ (c.bit_in.ensures.fits n is) in
     search rules
 
 pub returns-in-Exponent : goal.returns-in-Exponent
