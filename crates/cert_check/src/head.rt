@@ -1,5 +1,5 @@
 //! The first two lines of a certificate.
-ghost use Rattle.std.specs.Prelude.{◌≡◌, ◌<◌, ◌≤◌, length, drop, IfOk};
+ghost use Rattle.std.specs.Prelude.{◌≡◌, ◌⊎◌, ◌<◌, ◌≤◌, length, drop, IfErr, IfOk};
 ghost use Rattle.std.specs.Str.Lines.{lines};
 ghost use Rattle.outcome.specs.Outcome.{Fits, Returns};
 ghost use Rattle.poly_mixed.specs.Polynomial.{IsReduced};
@@ -23,11 +23,12 @@ pub(crate) struct Head<'a> {
     pub(crate) rest: &'a [u8],
 }
 
-// The version in the first line, and the text after it.
+// The version in the first line, and the text after it. It takes no memory.
 fn first_line(bytes: &[u8]) -> Result<(u32, &[u8]), CertFault>
     ensures value { Fits refusal (λ found. found.0) result (FirstLine 1 (λ line. Returns (version_in line)) (lines bytes.now)) }
     ensures rest { IfOk result (λ found. lines found.1.now ≡ drop 1 (lines bytes.now)) }
     ensures shorter { IfOk result (λ found. length found.1.now < length bytes.now) }
+    ensures fault { IfErr result (λ fault. (fault ≡ CertFault.NoEnd) ⊎ (fault ≡ CertFault.Syntax 1)) }
 {
     if bytes.is_empty() {
         return Err(CertFault::NoEnd);
