@@ -1,5 +1,5 @@
 //! The pairs of a certificate from its text.
-ghost use Rattle.std.specs.Prelude.{◌<◌, ◌≤◌, ◌+◌, length};
+ghost use Rattle.std.specs.Prelude.{◌<◌, ◌≤◌, ◌+◌, length, IsOkUnless};
 ghost use Rattle.std.specs.Str.Lines.{lines};
 ghost use Rattle.outcome.specs.Outcome.{Fits};
 ghost use Rattle.cert_check.specs.Fault.{refusal};
@@ -17,9 +17,10 @@ use poly_mixed::{Labels, Poly};
 use std::alloc::Global;
 use text_core::next_line;
 
-// The pairs, where nothing follows; the next line would have this number.
+// The pairs, where nothing follows; the next line would have this number. It takes no memory.
 fn ended(pairs: CertPairs, number: u32, rest: &[u8]) -> Result<CertPairs, CertFault>
-    ensures { Fits refusal (λ c. c) result (NoLine number (lines rest.now) pairs) }
+    ensures value { Fits refusal (λ c. c) result (NoLine number (lines rest.now) pairs) }
+    ensures fault { IsOkUnless result (CertFault.Syntax number) }
 {
     if rest.is_empty() {
         Ok(pairs)

@@ -41,7 +41,7 @@ returns-in-None c =
     let fits = subst P c.in-None.is (c.in-Ok.ensures.value ps.shared (sym c.shares-count.ensures)) in
     let ends = line_ends k net labels (AsksNothing k net labels) c.args.version n (lines c.loop-rest.rest.now) (lines c.next_line.result.1.now) c.next_line.result.0.now ps c.next_line.ensures.lines fits in
     cert_moved same same c.ended.result (NoLine (n + 1) (lines c.next_line.result.1.now) ps) (LinesOf k net labels (AsksNothing k net labels) c.args.version (lines c.args.bytes.now) 3 (begun c.args.claim.terms))
-    (λ x comes. c.loop-rest.invariant.rest (Ok x) (ends (Ok x) comes)) (λ f comes. c.loop-rest.invariant.rest (Err f) (ends (Err f) comes)) c.ended.ensures
+    (λ x comes. c.loop-rest.invariant.rest (Ok x) (ends (Ok x) comes)) (λ f comes. c.loop-rest.invariant.rest (Err f) (ends (Err f) comes)) c.ended.ensures.value
 
 pub add-requires : goal.add-requires
 add-requires c =
