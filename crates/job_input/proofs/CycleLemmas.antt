@@ -8,10 +8,13 @@ use Rattle.net_words.specs.Binding.{BoundNet}
 use Rattle.net_words.specs.Rebind.{rebound}
 use Rattle.net_words.specs.declared.bound.BoundWord.{BoundWord}
 use Rattle.unroll.specs.Unrolled.{in_one_cycle, is_flat, unrolled, unrolled_nets}
+use Rattle.unroll.specs.declared.fault.UnrollFault.{UnrollFault}
+use Rattle.unroll.specs.declared.fault.UnrollFault.TheVariants as unrolls
 use Rattle.job_words.specs.declared.netlist_fault.NetlistFault.TheVariants.{TooManyNets, TooManyGates}
 use Rattle.job_words.specs.declared.stop.Stop.{Stop}
 use Rattle.job_input.specs.CircuitOf.{CircuitOf, all_cycles}
 use Rattle.job_input.specs.Setting.{IsReady, IsTakenFor}
+use Rattle.job_input.specs.private.NetlistReading.{FitsNetlist, unroll_refusal}
 use Rattle.job_input.specs.declared.setting.Setting.{Setting}
 
 -- ---- at most one circuit
@@ -85,10 +88,17 @@ pub circuit_made : (netlist circuit : BoundNet) (cycles : ℕ) → circuit ≡ u
 unfolding all_cycles
 circuit_made netlist circuit cycles made few room = (made, le_of_not_lt (2 ^ 20) (nets (unrolled netlist.net netlist.binding cycles).net) few, room)
 
-pub too_many_nets : (netlist : BoundNet) (cycles : ℕ) → 2 ^ 20 < nets (unrolled netlist.net netlist.binding cycles).net → CircuitOf netlist cycles (Err TooManyNets)
+too_many_nets : (netlist : BoundNet) (cycles : ℕ) → 2 ^ 20 < nets (unrolled netlist.net netlist.binding cycles).net → CircuitOf netlist cycles (Err TooManyNets)
 unfolding all_cycles
 too_many_nets netlist cycles many = inl (refl, many)
 
-pub too_many_gates : (netlist : BoundNet) (cycles : ℕ) → (2 ^ 20 < nets (unrolled netlist.net netlist.binding cycles).net → ⊥) → 2 ^ 20 < length (unrolled netlist.net netlist.binding cycles).net.gates → CircuitOf netlist cycles (Err TooManyGates)
+too_many_gates : (netlist : BoundNet) (cycles : ℕ) → (2 ^ 20 < nets (unrolled netlist.net netlist.binding cycles).net → ⊥) → 2 ^ 20 < length (unrolled netlist.net netlist.binding cycles).net.gates → CircuitOf netlist cycles (Err TooManyGates)
 unfolding all_cycles
 too_many_gates netlist cycles few many = inr (refl, le_of_not_lt (2 ^ 20) (nets (unrolled netlist.net netlist.binding cycles).net) few, many)
+
+-- a netlist that is not unrolled, by what its fault tells of its nets and gates
+pub cycles_refused : (netlist : BoundNet) (cycles : ℕ) (fault : UnrollFault) → (fault ≡ unrolls.TooManyNets → 2 ^ 20 < nets (unrolled netlist.net netlist.binding cycles).net) → (2 ^ 20 < nets (unrolled netlist.net netlist.binding cycles).net → fault ≡ unrolls.TooManyNets)
+    → (fault ≡ unrolls.TooManyGates → 2 ^ 20 < length (unrolled netlist.net netlist.binding cycles).net.gates) → FitsNetlist {A = BoundNet} (Err (unroll_refusal fault)) (CircuitOf netlist cycles)
+cycles_refused netlist cycles unrolls.TooManyNets many told many_gates = too_many_nets netlist cycles (many refl)
+cycles_refused netlist cycles unrolls.TooManyGates many told many_gates = too_many_gates netlist cycles (λ over. let wrong : unrolls.TooManyGates ≡ unrolls.TooManyNets = told over in absurd (cc)) (many_gates refl)
+cycles_refused netlist cycles unrolls.OutOfMemory many told many_gates = tt

@@ -1,7 +1,7 @@
 //! All cycles of a netlist as one circuit.
-ghost use Rattle.std.specs.Prelude.{◌≤◌};
+ghost use Rattle.std.specs.Prelude.{◌≡◌, ◌≤◌};
 ghost use Rattle.job_input.specs.CircuitOf.{CircuitOf};
-ghost use Rattle.job_input.specs.private.NetlistReading.{FitsNetlist};
+ghost use Rattle.job_input.specs.private.NetlistReading.{FitsNetlist, unroll_refusal};
 
 use crate::bound::BoundNetlist;
 use crate::netlist::Refusal;
@@ -22,8 +22,17 @@ pub(crate) fn all_cycles(
     let (net, binding) = netlist.into_parts();
     match unroll(alloc, net, binding, cycles) {
         Ok(circuit) => Ok(circuit),
-        Err(UnrollFault::TooManyNets) => Err(Refusal::Fault(NetlistFault::TooManyNets)),
-        Err(UnrollFault::TooManyGates) => Err(Refusal::Fault(NetlistFault::TooManyGates)),
-        Err(UnrollFault::OutOfMemory) => Err(Refusal::OutOfMemory),
+        Err(fault) => Err(unroll_fault(fault)),
+    }
+}
+
+// The refusal of all cycles.
+fn unroll_fault(fault: UnrollFault) -> Refusal
+    ensures { result ≡ unroll_refusal fault }
+{
+    match fault {
+        UnrollFault::TooManyNets => Refusal::Fault(NetlistFault::TooManyNets),
+        UnrollFault::TooManyGates => Refusal::Fault(NetlistFault::TooManyGates),
+        UnrollFault::OutOfMemory => Refusal::OutOfMemory,
     }
 }

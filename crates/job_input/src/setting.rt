@@ -4,6 +4,8 @@ ghost use Rattle.outcome.specs.Outcome.{Returns, Within};
 ghost use Rattle.gf_basis.specs.BasisParts.{IsBasisOver, elements_of};
 ghost use Rattle.job_words.specs.Stop.{GivesBy};
 ghost use Rattle.job_words.specs.declared.fault.Fault.TheVariants.{Signature};
+ghost use Rattle.job_words.specs.declared.signature_fault.SignatureFault.{SignatureFault};
+ghost use Rattle.job_words.specs.declared.stop.Stop.TheVariants.{Refused};
 ghost use Rattle.job_input.specs.SettingOf.{BasisOf, WordBasis, BasesOf, BlocksHaveBases, feeds_within, place_within, basis_fault as fault_of_basis};
 ghost use Rattle.job_input.specs.SignedIn.{SettingOver};
 ghost use Rattle.job_input.specs.Setting.{elements_of_each, setting_value, AreBasesOver, AreSaid, IsReady};
@@ -116,9 +118,10 @@ fn is_within(k: u32, source: &Source) -> bool
     }
 }
 
-// The basis of a word: first its number of bits counts.
+// The basis of a word: first its number of bits counts. It takes no memory.
 fn word_basis<F: Field>(poly: &PolyBasis<'_, F>, word: &WordText) -> Result<Basis, Stop>
     ensures gives { GivesBy elements_of result (Within Signature (WordBasis (F.degree poly.now.field.now) (F.product poly.now.field.now) word.now)) ⊥ ⊥ }
+    ensures refused { IfErr result (λ stop. (fault : SignatureFault) × (stop ≡ Refused (Signature fault))) }
     ensures over { IfOk result (λ basis. IsBasisOver (F.degree poly.now.field.now) (F.product poly.now.field.now) basis) }
 {
     let line = word.line;

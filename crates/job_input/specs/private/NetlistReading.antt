@@ -12,9 +12,12 @@ use Rattle.net_blif.specs.declared.fault.BlifFault.{BlifFault}
 use Rattle.net_blif.specs.declared.fault.BlifFault.TheVariants as texts
 use Rattle.net_flat.specs.declared.flat_fault.FlatFault.{FlatFault}
 use Rattle.net_flat.specs.declared.flat_fault.FlatFault.TheVariants as flats
+use Rattle.unroll.specs.declared.fault.UnrollFault.{UnrollFault}
+use Rattle.unroll.specs.declared.fault.UnrollFault.TheVariants as unrolls
 use Rattle.net_words.specs.declared.binding.BindFault.{BindFault}
 use Rattle.net_words.specs.declared.binding.BindFault.TheVariants as binds
 use Rattle.job_words.specs.declared.netlist_fault.NetlistFault.{NetlistFault}
+use Rattle.job_words.specs.declared.netlist_fault.NetlistFault.TheVariants as netlist
 use Rattle.job_input.specs.NetlistOf.{of_model, of_aiger, of_text, of_net, of_verilog}
 use Rattle.job_input.specs.declared.netlist.Refusal.{Refusal}
 use Rattle.job_input.specs.declared.netlist.Refusal.TheVariants.{Fault, OutOfMemory}
@@ -60,6 +63,12 @@ abbrev pub verilog_refusal : VerilogFault → Refusal
 verilog_refusal verilogs.OutOfMemory = OutOfMemory
 verilog_refusal (verilogs.Net fault) = net_refusal fault
 verilog_refusal fault = Fault (of_verilog fault)
+
+-- the refusal of all cycles
+abbrev pub unroll_refusal : UnrollFault → Refusal
+unroll_refusal unrolls.TooManyNets = Fault netlist.TooManyNets
+unroll_refusal unrolls.TooManyGates = Fault netlist.TooManyGates
+unroll_refusal unrolls.OutOfMemory = OutOfMemory
 
 -- the word of a fault of a binding is one of so many words, and its net one of the net list
 abbrev pub IsNamed : ℕ → NetList → BindFault → Type 0

@@ -1,5 +1,5 @@
 use Rattle.std.proofs.Common.{ap, Err}
-use Rattle.job_input.proofs.CycleLemmas.{circuit_made, too_many_gates, too_many_nets}
+use Rattle.job_input.proofs.CycleLemmas.{circuit_made, cycles_refused}
 use Rattle.job_input.proofs.cycles.all_cycles.Goals as goal
 
 pub returns-in-Ok : goal.returns-in-Ok
@@ -9,14 +9,8 @@ returns-in-Ok c =
     let room = rw (c.into_parts-net.ensures.net, c.into_parts-net.ensures.binding) at c.in-Ok.ensures.room in
     record { fits = circuit_made c.args.netlist c.in-Ok.circuit c.args.cycles made (λ many. let wrong = nets.1 many in absurd (cc)) room }
 
-pub returns-in-Err-TooManyNets : goal.returns-in-Err-TooManyNets
-returns-in-Err-TooManyNets c =
-    let nets = rw (c.into_parts-net.ensures.net, c.into_parts-net.ensures.binding) at c.in-Err-TooManyNets.ensures.nets in
-    record { fits = too_many_nets c.args.netlist c.args.cycles (nets.0 (ap Err c.in-Err-TooManyNets.field-0-is)) }
-
-pub returns-in-Err-TooManyGates : goal.returns-in-Err-TooManyGates
-returns-in-Err-TooManyGates c =
-    let is = c.in-Err-TooManyGates.field-0-is in
-    let nets = rw (c.into_parts-net.ensures.net, c.into_parts-net.ensures.binding) at c.in-Err-TooManyGates.ensures.nets in
-    let gates = rw (c.into_parts-net.ensures.net, c.into_parts-net.ensures.binding) at c.in-Err-TooManyGates.ensures.gates in
-    record { fits = too_many_gates c.args.netlist c.args.cycles (λ many. let wrong = nets.1 many in absurd (cc)) (gates (ap Err is)) }
+pub returns-in-Err : goal.returns-in-Err
+returns-in-Err c =
+    let nets = rw (c.into_parts-net.ensures.net, c.into_parts-net.ensures.binding) at c.in-Err.ensures.nets in
+    let gates = rw (c.into_parts-net.ensures.net, c.into_parts-net.ensures.binding) at c.in-Err.ensures.gates in
+    record { fits = rw c.unroll_fault.ensures (cycles_refused c.args.netlist c.args.cycles c.in-Err.fault (λ is. nets.0 (ap Err is)) (λ over. let told = nets.1 over in cc) (λ is. gates (ap Err is))) }
