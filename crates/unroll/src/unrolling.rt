@@ -66,6 +66,7 @@ fn within_gates(alloc: Global, plan: Plan) -> Result<Combinational, UnrollFault>
     ensures made { IfOk result (λ circuit. circuit ≡ in_one_cycle plan.net plan.binding plan.cycles) }
     ensures other { IfErr result (λ fault. fault ≢ UnrollFault.TooManyNets) }
     ensures gates { IsErrOf result UnrollFault.TooManyGates → most_nets < length (in_one_cycle plan.net plan.binding plan.cycles).net.gates }
+    ensures told { most_nets < length (in_one_cycle plan.net plan.binding plan.cycles).net.gates → result ≡ Err UnrollFault.TooManyGates }
 {
     if plan.gate_count() > MOST {
         return Err(UnrollFault::TooManyGates);
