@@ -1,4 +1,5 @@
 pub mod ListLemmas
+pub mod LookLemmas
 pub mod FormLemmas
 pub mod PlacedLemmas
 pub mod UseLemmas
@@ -21,6 +22,7 @@ pub mod BestLemmas
 pub mod SettleLemmas
 pub mod MarkLemmas
 pub mod MadeLemmas
+pub mod FillLemmas
 pub mod SomeFormLemmas
 pub mod SomeLemmas
 pub mod WordLemmas

@@ -4,6 +4,7 @@ use Rattle.std.specs.Prelude.{slice_get, slice_set, ◌==◌}
 use Rattle.lists.specs.Lists.{Has}
 use Rattle.lists.specs.laws.HasLaws.{All_has}
 use Rattle.lists.specs.laws.NumberLaws.{nat_eq_or}
+use Rattle.lists.specs.laws.OptionLaws.{same_some}
 use Rattle.net_core.specs.GateValue.{GateValue}
 use Rattle.net_core.specs.NetList.{NetList, nets}
 use Rattle.net_core.specs.Sound.{IsSound, sources}
@@ -12,8 +13,8 @@ use Rattle.net_simplify.specs.Form.{Form, IsComposed, IsForm, complement, itself
 use Rattle.net_simplify.specs.Uses.{is_single, uses}
 use Rattle.net_simplify.specs.Choice.{Forms, IsChosen}
 use Rattle.net_simplify.specs.Simplified.{AreTwins, IsUnitBy}
-use Rattle.net_simplify.specs.private.Catalog.{IsFound, net_of, twin_key}
-use Rattle.net_simplify.specs.private.Lists.{FormLists, form_at, forms_of}
+use Rattle.net_simplify.specs.private.Catalog.{IsFound, IsKept, IsUnitFor, net_of, twin_key}
+use Rattle.net_simplify.specs.private.Lists.{AreThemselves, FormLists, form_at, forms_of, no_form}
 use Rattle.net_simplify.specs.private.Underway.{AreFormsTo, ArePlaced, Extends, IsEarlier, IsStep, IsUnderway, Keeps}
 use Rattle.net_simplify.specs.declared.catalog.Catalog.{Catalog}
 use Rattle.net_simplify.proofs.FormLemmas.{itself_form}
@@ -92,10 +93,6 @@ long_more : (xs : List Form) (f : Form) → length (xs ++ f ∷ []) ≡ length x
 long_more [] f = refl
 long_more (x ∷ xs) f = omega (arith, long_more xs f)
 
--- the first nets, each itself
-abbrev pub AreThemselves : List Form → ℕ → Type 0
-AreThemselves forms count = (length forms ≡ count) × ((n : ℕ) → n < count → form_at forms n ≡ itself n)
-
 pub themselves_more : (xs new : List Form) (k : ℕ) (f : Form) → AreThemselves xs k → f ≡ itself k → new ≡ xs ++ f ∷ [] → AreThemselves new (k + 1)
 themselves_more xs new k f are is made =
     let P : List Form → Type 0 = λ fs. AreThemselves fs (k + 1) in
@@ -106,6 +103,38 @@ themselves_more xs new k f are is made =
         | inr apart ↦ form_before xs (itself k) n (omega (arith, less, apart, are.0)) ∙ are.1 n (omega (arith, less, apart))
       ],
     )
+
+pub themselves_none : (forms : List Form) → forms ≡ [] → AreThemselves forms 0
+themselves_none forms none = (ap (λ (fs : List Form). length fs) none, λ n less. absurd (omega (arith, less)))
+
+pub themselves_all : (forms : List Form) (n count : ℕ) → count ≤ n → n ≤ count → AreThemselves forms n → AreThemselves forms count
+themselves_all forms n count least most are =
+    let same : n ≡ count = omega (arith, least, most) in
+    let P : ℕ → Type 0 = AreThemselves forms in
+    subst P same are
+
+-- a form that the list does not have
+form_past : (xs : List Form) (n : ℕ) → length xs ≤ n → form_at xs n ≡ no_form
+form_past [] n past = refl
+form_past (x ∷ xs) zero past = absurd (omega arith)
+form_past (x ∷ xs) (suc n) past = form_past xs n (omega arith)
+
+pub themselves_few : (forms : List Form) (count : ℕ) → AreThemselves forms count → (n : ℕ) → length (form_at forms n).leaves ≤ 1
+themselves_few forms count are n =
+    let P : Form → Type 0 = λ f. length f.leaves ≤ 1 in
+    elim (nat_eq_or (suc n - count) 0) [
+      | inl under ↦ subst P (sym (are.1 n (omega (arith, under)))) (omega arith)
+      | inr over ↦ subst P (sym (form_past forms n (omega (arith, over, are.0)))) (omega arith)
+    ]
+
+-- no form of a list has more leaves than one, nor has what is put in
+pub few_set : (xs : List Form) (i : ℕ) (f : Form) → length f.leaves ≤ 1 → ((n : ℕ) → length (form_at xs n).leaves ≤ 1) → (n : ℕ) → length (form_at (slice_set xs i f) n).leaves ≤ 1
+few_set [] zero f few each n = each n
+few_set [] (suc i) f few each n = each n
+few_set (x ∷ xs) zero f few each zero = few
+few_set (x ∷ xs) zero f few each (suc n) = each (suc n)
+few_set (x ∷ xs) (suc i) f few each zero = each 0
+few_set (x ∷ xs) (suc i) f few each (suc n) = few_set xs i f few (λ m. each (suc m)) n
 
 -- ---- bodies of functions of one net at most
 
@@ -166,6 +195,25 @@ pub unit_turned : (forms : Forms) (form : Form) (m here there : ℕ) (unit : For
 unit_turned forms form m here there unit is is' other made (inl twin) = absurd (other (is ∙ ap (λ (f : Form). f.table) twin ∙ sym is'))
 unit_turned forms form m here there unit is is' other made (inr twin) = inr (twin, made)
 
+-- the unit of a body for which a net is kept, and of one for which none is
+pub unit_found : (lists : FormLists) (c : Form) (out m : ℕ) (catalog : Catalog) (unit : Form) (key : List ℕ) (found : Option ℕ) → key ≡ twin_key c → found ≡ net_of catalog key → found ≡ Some m → (AreTwins (form_at lists.bodies m) c → IsUnitBy (forms_of lists) c m unit) → length unit.leaves ≤ 1 → IsUnitFor lists c out catalog catalog unit
+unit_found lists c out m catalog unit key found is read some by few =
+    let there : net_of catalog (twin_key c) ≡ Some m = sym (ap (net_of catalog) is) ∙ sym read ∙ some in
+    record {
+      found = λ n at. (refl, (let U : ℕ → Type 0 = λ k. AreTwins (form_at lists.bodies k) c → IsUnitBy (forms_of lists) c k unit in subst U (same_some m n (sym there ∙ at)) by));
+      added = λ none. absurd (let both : Some m ≡ None = sym there ∙ none in cc);
+      few = few;
+    }
+
+pub unit_added : (lists : FormLists) (c : Form) (out : ℕ) (old new : Catalog) (unit : Form) (key : List ℕ) (found : Option ℕ) → key ≡ twin_key c → found ≡ net_of old key → found ≡ None → IsKept key out old new unit → IsUnitFor lists c out old new unit
+unit_added lists c out old new unit key found is read none kept =
+    let there : net_of old (twin_key c) ≡ None = sym (ap (net_of old) is) ∙ sym read ∙ none in
+    record {
+      found = λ m at. absurd (let both : Some m ≡ None = sym at ∙ there in cc);
+      added = λ e. let K : List ℕ → Type 0 = λ k. IsKept k out old new unit in subst K is kept;
+      few = omega (arith, ap (λ (f : Form). length f.leaves) kept.0);
+    }
+
 -- ---- steps
 
 own_forms : (net : NetList) (gates : List GateValue) (i : ℕ) (lists : FormLists) → Extends net gates i lists (forms_of lists)
@@ -202,12 +250,7 @@ reduced_next net ends gates i g lists new catalog out c body same set few made s
     let B : Form → Type 0 = IsComposed c.table (map (form_at lists.bodies) c.leaves) in
     next_place net ends gates i new catalog (step_reduced net ends gates i g lists new catalog c step chosen few (set_keeps lists new g.out c body is) (set_unit lists new g.out c body is) (subst B (sym (set_body lists new g.out c body is)) composed))
 
--- what is asked of the unit of a function of more leaves
-pub record IsUnitFor (lists : FormLists) (old new : Catalog) (c : Form) (out : ℕ) (unit : Form) : Type 0 where
-  pub found : (m : ℕ) → net_of old (twin_key c) ≡ Some m → (new ≡ old) × (AreTwins (form_at lists.bodies m) c → IsUnitBy (forms_of lists) c m unit)
-  pub added : net_of old (twin_key c) ≡ None → (unit ≡ itself out) × ((q : List ℕ) → net_of new q ≡ cond (bytes_eq q (twin_key c)) (Some out) (net_of old q))
-
-pub shared_next : (net : NetList) (ends : List ℕ) (gates : List GateValue) (i : ℕ) (g : GateValue) (lists new : FormLists) (old catalog : Catalog) (out : ℕ) (c unit : Form) → out ≡ g.out → IsSet lists new out unit c → 2 ≤ length c.leaves → IsUnitFor lists old catalog c out unit
+pub shared_next : (net : NetList) (ends : List ℕ) (gates : List GateValue) (i : ℕ) (g : GateValue) (lists new : FormLists) (old catalog : Catalog) (out : ℕ) (c unit : Form) → out ≡ g.out → IsSet lists new out unit c → 2 ≤ length c.leaves → IsUnitFor lists c out old catalog unit
     → IsStep net ends gates i g lists old → IsChosen (is_single net ends gates) (forms_of lists) g c → IsUnderway net ends gates (i + 1) new catalog
 shared_next net ends gates i g lists new old catalog out c unit same set more unit_for step chosen =
     next_place net ends gates i new catalog (by (net_of old (twin_key c)) refl)
@@ -244,14 +287,12 @@ reduced_done net ends gates i g lists new catalog out c body same within long un
     reduced_next net ends gates i g lists new catalog out c body same (record { within = omega (arith, same, within); long = long; units = units; bodies = bodies }) few made step chosen
 
 pub shared_done : (net : NetList) (ends : List ℕ) (gates : List GateValue) (i : ℕ) (g : GateValue) (lists new : FormLists) (old catalog : Catalog) (out again : ℕ) (c unit : Form) → out ≡ g.out → again ≡ g.out → g.out < length lists.units → length lists.bodies ≡ length lists.units → new.units ≡ slice_set lists.units again unit → new.bodies ≡ slice_set lists.bodies again c → 2 ≤ length c.leaves
-    → ((m : ℕ) → net_of old (twin_key c) ≡ Some m → (catalog ≡ old) × (AreTwins (form_at lists.bodies m) c → IsUnitBy (forms_of lists) c m unit))
-    → (net_of old (twin_key c) ≡ None → (unit ≡ itself out) × ((q : List ℕ) → net_of catalog q ≡ cond (bytes_eq q (twin_key c)) (Some out) (net_of old q)))
-    → IsStep net ends gates i g lists old → IsChosen (is_single net ends gates) (forms_of lists) g c → IsUnderway net ends gates (i + 1) new catalog
-shared_done net ends gates i g lists new old catalog out again c unit same same_again within long units bodies more found added step chosen =
+    → IsUnitFor lists c out old catalog unit → IsStep net ends gates i g lists old → IsChosen (is_single net ends gates) (forms_of lists) g c → IsUnderway net ends gates (i + 1) new catalog
+shared_done net ends gates i g lists new old catalog out again c unit same same_again within long units bodies more unit_for step chosen =
     let one : again ≡ out = same_again ∙ sym same in
     let U : ℕ → Type 0 = λ n. new.units ≡ slice_set lists.units n unit in
     let B : ℕ → Type 0 = λ n. new.bodies ≡ slice_set lists.bodies n c in
-    shared_next net ends gates i g lists new old catalog out c unit same (record { within = omega (arith, same, within); long = long; units = subst U one units; bodies = subst B one bodies }) more (record { found = found; added = added }) step chosen
+    shared_next net ends gates i g lists new old catalog out c unit same (record { within = omega (arith, same, within); long = long; units = subst U one units; bodies = subst B one bodies }) more unit_for step chosen
 
 -- before the first gate
 pub underway_start : (net : NetList) (ends : List ℕ) (gates : List GateValue) (lists : FormLists) (catalog : Catalog) → IsSound net → length lists.units ≡ nets net → ((n : ℕ) → n < nets net → form_at lists.units n ≡ itself n) → ((n : ℕ) → n < nets net → form_at lists.bodies n ≡ itself n) → ((key : List ℕ) → net_of catalog key ≡ None) → IsUnderway net ends gates 0 lists catalog

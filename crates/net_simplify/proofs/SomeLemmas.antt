@@ -16,8 +16,8 @@ use Rattle.net_simplify.specs.Form.{Form, IsComposed, IsForm, complement, itself
 use Rattle.net_simplify.specs.Simplified.{AreForms, AreTwins, IsSimplified, IsUnitBy, with_forms}
 use Rattle.net_simplify.specs.Uses.{AreInOrder, is_single, uses}
 use Rattle.net_simplify.specs.private.Best.{IsBest}
-use Rattle.net_simplify.specs.private.Catalog.{net_of, numbers_cmp, twin_key}
-use Rattle.net_simplify.specs.private.Lists.{FormLists, form_at, forms_of}
+use Rattle.net_simplify.specs.private.Catalog.{IsUnitFor, net_of, numbers_cmp, twin_key}
+use Rattle.net_simplify.specs.private.Lists.{AreThemselves, FormLists, form_at, forms_of}
 use Rattle.net_simplify.specs.private.Marks.{gates_by}
 use Rattle.net_simplify.specs.private.Underway.{ArePlaced, IsStep, IsUnderway}
 use Rattle.net_simplify.specs.declared.catalog.Catalog.{Catalog}
@@ -26,7 +26,7 @@ use Rattle.net_simplify.proofs.CatalogLemmas.{both_ways, key_at}
 use Rattle.net_simplify.proofs.LeafLemmas.{units_few}
 use Rattle.net_simplify.proofs.MarkLemmas.{in_order_by}
 use Rattle.net_simplify.proofs.PlacedLemmas.{are_placed}
-use Rattle.net_simplify.proofs.SettleLemmas.{AreThemselves, IsSet, IsUnitFor, body_constant, body_same, body_turned, form_long, idle_next, reduced_next, set_keeps, set_unit, shared_next, themselves_more, underway_start, unit_same, unit_turned}
+use Rattle.net_simplify.proofs.SettleLemmas.{IsSet, body_constant, body_same, body_turned, few_set, form_long, idle_next, reduced_next, shared_next, themselves_few, themselves_more, underway_start, unit_added, unit_found, unit_same, unit_turned}
 use Rattle.net_simplify.proofs.SomeFormLemmas.{composed_some}
 use Rattle.net_simplify.proofs.StepLemmas.{first}
 use Rattle.net_simplify.proofs.UnderwayLemmas.{underway_end}
@@ -87,18 +87,13 @@ net_more catalog key net q = ap (λ b. cond b (Some net) (net_of catalog q)) (ke
 record IsUnitMade (lists : FormLists) (old : Catalog) (c : Form) (out : ℕ) : Type 0 where
   unit : Form
   catalog : Catalog
-  few : length unit.leaves ≤ 1
-  is : IsUnitFor lists old catalog c out unit
+  is : IsUnitFor lists c out old catalog unit
 
 unit_some : (lists : FormLists) (old : Catalog) (c : Form) (out : ℕ) (o : Option ℕ) → IsForm c → net_of old (twin_key c) ≡ o → IsUnitMade lists old c out
 unit_some lists old c out None form none = record {
   unit = itself out;
   catalog = with_net old (twin_key c) out;
-  few = omega arith;
-  is = record {
-    found = λ m there. absurd (let never : None ≡ Some m = sym none ∙ there in cc);
-    added = λ none'. (refl, net_more old (twin_key c) out);
-  };
+  is = unit_added lists c out old (with_net old (twin_key c) out) (itself out) (twin_key c) (net_of old (twin_key c)) refl refl none (refl, net_more old (twin_key c) out);
 }
 unit_some lists old c out (Some m) form there =
     elim (nat_eq_or (form_at lists.bodies m).table c.table) [
@@ -110,16 +105,7 @@ unit_some lists old c out (Some m) form there =
     made unit few is = record {
       unit = unit;
       catalog = old;
-      few = few;
-      is = record {
-        found = λ k there'. (
-          refl,
-          let e : m ≡ k = (let both : Some m ≡ Some k = sym there ∙ there' in cc) in
-              let P : ℕ → Type 0 = λ n. AreTwins (form_at lists.bodies n) c → IsUnitBy (forms_of lists) c n unit in
-              subst P e is,
-        );
-        added = λ none. absurd (let never : Some m ≡ None = sym there ∙ none in cc);
-      };
+      is = unit_found lists c out m old unit (twin_key c) (net_of old (twin_key c)) refl refl there is few;
     }
 
 -- ---- gate by gate
@@ -141,16 +127,6 @@ is_set lists out unit body within long = record { within = within; long = long; 
 
 long_set : (lists : FormLists) (out : ℕ) (unit body : Form) → length lists.bodies ≡ length lists.units → length (with_set lists out unit body).bodies ≡ length (with_set lists out unit body).units
 long_set lists out unit body long = form_long lists.bodies out body ∙ long ∙ sym (form_long lists.units out unit)
-
-few_set : (lists : FormLists) (out : ℕ) (unit body : Form) → IsSet lists (with_set lists out unit body) out unit body → length unit.leaves ≤ 1 → ((n : ℕ) → length (form_at lists.units n).leaves ≤ 1) → (n : ℕ) → length (form_at (with_set lists out unit body).units n).leaves ≤ 1
-few_set lists out unit body is few each n =
-    let P : Form → Type 0 = λ f. length f.leaves ≤ 1 in
-    elim (nat_eq_or n out) [
-      | inl same ↦
-          let Q : ℕ → Type 0 = λ k. length (form_at (with_set lists out unit body).units k).leaves ≤ 1 in
-          subst Q (sym same) (subst P (sym (set_unit lists (with_set lists out unit body) out unit body is)) few)
-      | inr apart ↦ subst P (sym ((set_keeps lists (with_set lists out unit body) out unit body is).unit n apart)) (each n)
-    ]
 
 step_some : (net : NetList) (ends : List ℕ) (gates : List GateValue) (i : ℕ) (g : GateValue) → IsSound net → ArePlaced net gates → slice_get gates i ≡ Some g → IsMade net ends gates i → IsMade net ends gates (i + 1)
 step_some net ends gates i g sound placed got m =
@@ -175,7 +151,7 @@ step_some net ends gates i g sound placed got m =
                 catalog = m.catalog;
                 underway = reduced_next net ends gates i g m.lists (with_set m.lists g.out c b.0) m.catalog g.out c b.0 refl is few b.1 step chosen;
                 long = long_set m.lists g.out c b.0 m.long;
-                few = few_set m.lists g.out c b.0 is few m.few;
+                few = few_set m.lists.units g.out c few m.few;
               }
           | inr big ↦
               let more : 2 ≤ length c.leaves = omega (arith, big) in
@@ -186,7 +162,7 @@ step_some net ends gates i g sound placed got m =
                 catalog = u.catalog;
                 underway = shared_next net ends gates i g m.lists (with_set m.lists g.out u.unit c) m.catalog u.catalog g.out c u.unit refl is more u.is step chosen;
                 long = long_set m.lists g.out u.unit c m.long;
-                few = few_set m.lists g.out u.unit c is u.few m.few;
+                few = few_set m.lists.units g.out u.unit u.is.few m.few;
               }
         ]
 
@@ -198,18 +174,6 @@ themselves_some (suc count) =
     let P : ℕ → Type 0 = AreThemselves (old.0 ++ itself count ∷ []) in
     (old.0 ++ itself count ∷ [], subst P up (themselves_more old.0 (old.0 ++ itself count ∷ []) count (itself count) old.1 refl refl))
 
-few_themselves : (count : ℕ) → (n : ℕ) → length (form_at (themselves_some count).0 n).leaves ≤ 1
-few_themselves count n = elim (nat_eq_or (suc n - count) 0) [
-  | inl under ↦ let P : Form → Type 0 = λ f. length f.leaves ≤ 1 in subst P (sym ((themselves_some count).1.1 n (omega (arith, under)))) (omega arith)
-  | inr over ↦ let P : Form → Type 0 = λ f. length f.leaves ≤ 1 in subst P (sym (beyond (themselves_some count).0 n (omega (arith, over, (themselves_some count).1.0)))) (omega arith)
-]
-  where
-    beyond : (xs : List Form) (k : ℕ) → length xs ≤ k → form_at xs k ≡ record { leaves = []; table = 0 }
-    beyond [] zero past = refl
-    beyond [] (suc k) past = refl
-    beyond (x ∷ xs) zero past = absurd (omega arith)
-    beyond (x ∷ xs) (suc k) past = beyond xs k (omega arith)
-
 made_to : (net : NetList) (ends : List ℕ) (gates : List GateValue) → IsSound net → ArePlaced net gates → (i : ℕ) → i ≤ length gates → IsMade net ends gates i
 made_to net ends gates sound placed zero within =
     let forms = themselves_some (nets net) in
@@ -219,7 +183,7 @@ made_to net ends gates sound placed zero within =
       catalog = catalog;
       underway = underway_start net ends gates (record { units = forms.0; bodies = forms.0 }) catalog sound forms.1.0 forms.1.1 forms.1.1 (λ key. refl);
       long = refl;
-      few = few_themselves (nets net);
+      few = themselves_few forms.0 (nets net) forms.1;
     }
 made_to net ends gates sound placed (suc i) within =
     let at = get_below gates i (omega (arith, within)) in

@@ -18,8 +18,7 @@ use Rattle.net_words.specs.declared.word.Role.TheVariants.{Fed, Input, Output, S
 use Rattle.net_simplify.specs.Circuit.{IsSimplifiedCircuit}
 use Rattle.net_simplify.specs.Simplified.{IsSimplified, IsSimplifiedTwice}
 use Rattle.net_simplify.specs.private.Words.{nets_of}
-use Rattle.net_simplify.proofs.CircuitLemmas.{circuit_cycle}
-use Rattle.net_simplify.proofs.SoundLemmas.{simplified_sound}
+use Rattle.net_simplify.proofs.CircuitLemmas.{circuit_cycle, circuit_sound}
 
 -- each word has k nets
 abbrev AreNamed : ℕ → List BoundWord → Type 0
@@ -139,45 +138,27 @@ flat_between ends net simple flat is = ap (λ (n : NetList). n.latches) is.made 
 pub nets_between : (ends : List ℕ) (net simple : NetList) → IsSimplified ends net simple → nets simple ≡ nets net
 nets_between ends net simple is = ap nets is.made
 
-pub twice_circuit : (circuit : BoundNet) (ends : List ℕ) (between simple : NetList) → ends ≡ output_bits circuit.binding.words → IsSimplified ends circuit.net between → IsSimplified ends between simple → IsSimplifiedCircuit circuit (record { net = simple; binding = circuit.binding })
-twice_circuit circuit ends between simple is first second =
-    let P : List ℕ → Type 0 = λ es. IsSimplified es circuit.net between in
-    let Q : List ℕ → Type 0 = λ es. IsSimplified es between simple in
-    record { net = record { between = between; first = subst P is first; second = subst Q is second }; binding = refl }
-
-pub twice_cycle : (circuit : BoundNet) (ends : List ℕ) (between simple : NetList) → IsSound circuit.net → IsOneCycle circuit.net circuit.binding → ends ≡ output_bits circuit.binding.words → IsSimplified ends circuit.net between → IsSimplified ends between simple → IsOneCycle simple circuit.binding
-twice_cycle circuit ends between simple sound one is first second = circuit_cycle circuit (record { net = simple; binding = circuit.binding }) sound one (twice_circuit circuit ends between simple is first second)
-
-pub twice_sound : (circuit : BoundNet) (ends : List ℕ) (between simple : NetList) → IsSound circuit.net → IsSimplified ends circuit.net between → IsSimplified ends between simple → IsSound simple
-twice_sound circuit ends between simple sound first second = simplified_sound ends between simple (simplified_sound ends circuit.net between sound first) second
-
 -- the nets of the output word exist
 pub ends_exist : (circuit : BoundNet) (ends : List ℕ) → IsOneCycle circuit.net circuit.binding → ends ≡ output_bits circuit.binding.words → (n : ℕ) → Has ends n → n < nets circuit.net
 ends_exist circuit ends one is n has = let P : List ℕ → Type 0 = λ xs. Has xs n in one.outputs n (subst P is has)
 
-pub ends_exist_between : (circuit : BoundNet) (ends : List ℕ) (between : NetList) → IsOneCycle circuit.net circuit.binding → ends ≡ output_bits circuit.binding.words → IsSimplified ends circuit.net between → (n : ℕ) → Has ends n → n < nets between
-ends_exist_between circuit ends between one is first n has = omega (arith, ends_exist circuit ends one is n has, nets_between ends circuit.net between first)
+-- the net list of the parts that are read one by one, with the words of the circuit
+twice_simple : (circuit : BoundNet) (first net : NetList) (binding : Binding) (ends one : List ℕ) → first ≡ circuit.net → binding ≡ circuit.binding → ends ≡ output_bits binding.words → one ≡ ends → IsSimplifiedTwice one first net → IsSimplifiedCircuit circuit (record { net = net; binding = circuit.binding })
+twice_simple circuit first net binding ends one same_net same_binding is same twice =
+    let A : List ℕ → Type 0 = λ es. IsSimplifiedTwice es first net in
+    let B : NetList → Type 0 = λ n. IsSimplifiedTwice (output_bits circuit.binding.words) n net in
+    record { net = subst B same_net (subst A (same ∙ is ∙ ap (λ (b : Binding). output_bits b.words) same_binding) twice); binding = refl }
 
-pub circuit_is : (circuit simple : BoundNet) (ends : List ℕ) (between net : NetList) → ends ≡ output_bits circuit.binding.words → IsSimplified ends circuit.net between → IsSimplified ends between net → simple ≡ record { net = net; binding = circuit.binding } → IsSimplifiedCircuit circuit simple
-circuit_is circuit simple ends between net is first second made = let P : BoundNet → Type 0 = IsSimplifiedCircuit circuit in subst P (sym made) (twice_circuit circuit ends between net is first second)
+pub simple_is : (circuit simple : BoundNet) (first net : NetList) (binding again : Binding) (ends one : List ℕ) → first ≡ circuit.net → binding ≡ circuit.binding → again ≡ circuit.binding → ends ≡ output_bits binding.words → one ≡ ends → IsSimplifiedTwice one first net
+    → simple ≡ record { net = net; binding = again } → IsSimplifiedCircuit circuit simple
+simple_is circuit simple first net binding again ends one same_net same_binding same_again is same twice made =
+    let P : BoundNet → Type 0 = IsSimplifiedCircuit circuit in
+    subst P (sym (made ∙ ap (λ (b : Binding). record { net = net; binding = b }) same_again)) (twice_simple circuit first net binding ends one same_net same_binding is same twice)
 
--- the same, where the parts are read one by one
-pub simple_is : (circuit simple : BoundNet) (first_net net between : NetList) (binding again : Binding) (ends one two : List ℕ) → first_net ≡ circuit.net → binding ≡ circuit.binding → again ≡ circuit.binding → ends ≡ output_bits binding.words → one ≡ ends → two ≡ ends
-    → IsSimplified one first_net between → IsSimplified two between net → simple ≡ record { net = net; binding = again } → IsSimplifiedCircuit circuit simple
-simple_is circuit simple first_net net between binding again ends one two same_net same_binding same_again is same_one same_two first second made =
-    let A : List ℕ → Type 0 = λ es. IsSimplified es first_net between in
-    let B : NetList → Type 0 = λ n. IsSimplified ends n between in
-    let C : List ℕ → Type 0 = λ es. IsSimplified es between net in
-    circuit_is circuit simple ends between net (is ∙ ap (λ (b : Binding). output_bits b.words) same_binding) (subst B same_net (subst A same_one first)) (subst C same_two second) (made ∙ ap (λ (b : Binding). record { net = net; binding = b }) same_again)
-
-pub simple_cycle : (circuit : BoundNet) (first_net net between : NetList) (binding again : Binding) (ends one two : List ℕ) → IsSound circuit.net → IsOneCycle circuit.net circuit.binding → first_net ≡ circuit.net → binding ≡ circuit.binding → again ≡ circuit.binding → ends ≡ output_bits binding.words → one ≡ ends → two ≡ ends
-    → IsSimplified one first_net between → IsSimplified two between net → IsSound net × IsOneCycle net again
-simple_cycle circuit first_net net between binding again ends one two sound cycle same_net same_binding same_again is same_one same_two first second =
-    let A : List ℕ → Type 0 = λ es. IsSimplified es first_net between in
-    let B : NetList → Type 0 = λ n. IsSimplified ends n between in
-    let C : List ℕ → Type 0 = λ es. IsSimplified es between net in
+pub simple_cycle : (circuit : BoundNet) (first net : NetList) (binding again : Binding) (ends one : List ℕ) → IsSound circuit.net → IsOneCycle circuit.net circuit.binding → first ≡ circuit.net → binding ≡ circuit.binding → again ≡ circuit.binding → ends ≡ output_bits binding.words → one ≡ ends
+    → IsSimplifiedTwice one first net → IsSound net × IsOneCycle net again
+simple_cycle circuit first net binding again ends one sound cycle same_net same_binding same_again is same twice =
+    let simple : BoundNet = record { net = net; binding = circuit.binding } in
+    let made = twice_simple circuit first net binding ends one same_net same_binding is same twice in
     let P : Binding → Type 0 = IsOneCycle net in
-    let first' = subst B same_net (subst A same_one first) in
-    let second' = subst C same_two second in
-    let is' : ends ≡ output_bits circuit.binding.words = is ∙ ap (λ (b : Binding). output_bits b.words) same_binding in
-    (twice_sound circuit ends between net sound first' second', subst P (sym same_again) (twice_cycle circuit ends between net sound cycle is' first' second'))
+    (circuit_sound circuit simple sound made, subst P (sym same_again) (circuit_cycle circuit simple sound cycle made))

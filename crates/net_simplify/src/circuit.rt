@@ -1,8 +1,11 @@
 //! Simplified circuits.
-ghost use Rattle.std.specs.Prelude.{◌≡◌, ◌<◌, ◌++◌, Some, All, length, slice_get, IfOk, OnOk};
+ghost use Rattle.std.specs.Prelude.{◌≡◌, ◌<◌, ◌++◌, [], ℕ, Some, All, length, slice_get, IfOk, OnOk};
+ghost use Rattle.lists.specs.Lists.{Has};
+ghost use Rattle.net_core.specs.NetList.{nets};
 ghost use Rattle.net_core.specs.Sound.{IsSound};
 ghost use Rattle.net_words.specs.OneCycle.{IsOneCycle};
 ghost use Rattle.net_simplify.specs.Circuit.{IsSimplifiedCircuit};
+ghost use Rattle.net_simplify.specs.Simplified.{IsSimplifiedTwice};
 ghost use Rattle.net_simplify.specs.private.Words.{nets_of};
 
 use crate::rounds::simplified;
@@ -49,14 +52,22 @@ fn with_words(alloc: Global, binding: &Bound, net: Net) -> Result<Combinational,
     }
 }
 
+// The net, simplified twice for these ends.
+fn simplified_twice(alloc: Global, net: &Net, ends: &[u32]) -> Result<Net, AllocError>
+    requires flat { net.now.latches ≡ [] }
+    requires ends { (n : ℕ) → Has ends.now n → n < nets net.now }
+    ensures { IfOk result (λ simple. IsSimplifiedTwice ends.now net.now simple) }
+{
+    let between = simplified(alloc, net, ends)?;
+    simplified(alloc, &between, ends)
+}
+
 /// The circuit whose net is simplified twice, for the nets of its output word, with the same words. It answers nothing but
 /// this circuit, or runs out of memory.
 pub fn simplify(alloc: Global, circuit: &Combinational) -> Result<Combinational, AllocError>
     ensures { IfOk result (λ simple. IsSimplifiedCircuit circuit.now simple) }
 {
     let ends = output_nets(alloc, circuit.binding())?;
-    let between = simplified(alloc, circuit.net(), &ends)?;
-    let net = simplified(alloc, &between, &ends)?;
-    let simple = with_words(alloc, circuit.binding(), net)?;
-    Ok(simple)
+    let net = simplified_twice(alloc, circuit.net(), &ends)?;
+    with_words(alloc, circuit.binding(), net)
 }

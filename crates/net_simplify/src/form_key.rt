@@ -44,9 +44,8 @@ impl FormKey {
         ensures { IfOk result (λ k. k ≡ twin_key form.now) }
     {
         let table = even_table(form);
-        let mut numbers = SmallVec::new(alloc);
-        numbers.push((table % HALF) as u32)?;
-        numbers.push((table / HALF) as u32)?;
+        let halves = [(table % HALF) as u32, (table / HALF) as u32];
+        let mut numbers = SmallVec::from_slice(alloc, &halves)?;
         numbers.extend_from_slice(form.leaves())?;
         Ok(FormKey { numbers })
     }

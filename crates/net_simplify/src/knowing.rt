@@ -1,7 +1,9 @@
 //! What the nets of a net list are.
 ghost use Rattle.std.specs.Prelude.{◌≡◌, ◌<◌, length, IfOk, OnOk};
+ghost use Rattle.net_core.specs.NetList.{nets};
 ghost use Rattle.net_core.specs.Order.{IsLevelOrder};
 ghost use Rattle.net_core.specs.Sound.{IsSound};
+ghost use Rattle.net_simplify.specs.private.Lists.{AreAllThemselves};
 ghost use Rattle.net_simplify.specs.private.Underway.{AreFormsBy, KnowsNext};
 
 use crate::catalog::Catalog;
@@ -29,23 +31,39 @@ fn know_gate(
     settle(alloc, gate, marks, known, catalog)
 }
 
-/// What the nets are, gate by gate in the order, where the marks tell how often nets are used.
-pub fn know(alloc: Global, net: &Net, order: &[u32], marks: &[u8]) -> Result<Known, AllocError>
-    requires { IsLevelOrder net.now order.now }
-    ensures sound { IsSound net.now }
-    ensures forms { IfOk result (λ known. AreFormsBy net.now order.now marks.now known) }
+// What the nets are, gate by gate in the order, where nothing is known but that each net is itself.
+fn know_all(
+    alloc: Global,
+    net: &Net,
+    order: &[u32],
+    marks: &[u8],
+    known: &mut Known,
+) -> Result<(), AllocError>
+    requires order { IsLevelOrder net.now order.now }
+    requires begun { AreAllThemselves (nets net.now) known.old }
+    ensures { OnOk result (AreFormsBy net.now order.now marks.now known.new) }
 {
     let gates = net.gates();
-    let mut known = Known::new(alloc, net.nets())?;
     let mut catalog = Catalog::new(alloc);
     for position in order {
         know_gate(
             alloc,
             &gates[*position as usize],
             marks,
-            &mut known,
+            known,
             &mut catalog,
         )?;
     }
+    Ok(())
+}
+
+/// What the nets are, gate by gate in the order, where the marks tell how often nets are used.
+pub fn know(alloc: Global, net: &Net, order: &[u32], marks: &[u8]) -> Result<Known, AllocError>
+    requires { IsLevelOrder net.now order.now }
+    ensures sound { IsSound net.now }
+    ensures forms { IfOk result (λ known. AreFormsBy net.now order.now marks.now known) }
+{
+    let mut known = Known::new(alloc, net.nets())?;
+    know_all(alloc, net, order, marks, &mut known)?;
     Ok(known)
 }

@@ -1,7 +1,6 @@
 //! What nets are: their units and their bodies.
 ghost use Rattle.std.specs.Prelude.{◌≡◌, ◌<◌, ◌≤◌, ℕ, length, slice_set, IfOk, true, if◌then◌else◌};
-ghost use Rattle.net_simplify.specs.Form.{itself};
-ghost use Rattle.net_simplify.specs.private.Lists.{form_at};
+ghost use Rattle.net_simplify.specs.private.Lists.{AreAllThemselves, AreThemselves, form_at};
 
 use crate::table_form::TableForm;
 use std::alloc::{AllocError, Global};
@@ -42,8 +41,7 @@ impl Model for Known {
 
 // The first nets, each itself.
 fn themselves(alloc: Global, nets: u32) -> Result<Vec<TableForm>, AllocError>
-    ensures long { IfOk result (λ v. length v.items ≡ nets) }
-    ensures each { IfOk result (λ v. (n : ℕ) → n < nets → form_at v.items n ≡ itself n) }
+    ensures { IfOk result (λ forms. AreThemselves forms.items nets) }
 {
     let mut forms = Vec::with_capacity(alloc, nets as usize)?;
     for net in 0..nets {
@@ -52,20 +50,25 @@ fn themselves(alloc: Global, nets: u32) -> Result<Vec<TableForm>, AllocError>
     Ok(forms)
 }
 
+// Puts a form in the place of a net's form.
+fn put(forms: &mut Vec<TableForm>, net: u32, form: TableForm)
+    requires { net < length forms.old.items }
+    ensures { forms.new.items ≡ slice_set forms.old.items net form }
+{
+    forms[net as usize] = form;
+}
+
 impl Known {
     /// Each net is itself.
     pub(crate) fn new(alloc: Global, nets: u32) -> Result<Known, AllocError>
-        ensures long { IfOk result (λ k. length k.units ≡ nets) }
-        ensures units { IfOk result (λ k. (n : ℕ) → n < nets → form_at k.units n ≡ itself n) }
-        ensures bodies { IfOk result (λ k. (n : ℕ) → n < nets → form_at k.bodies n ≡ itself n) }
+        ensures { IfOk result (AreAllThemselves nets) }
     {
         let units = themselves(alloc, nets)?;
         let bodies = themselves(alloc, nets)?;
-        let none = TableForm::none(alloc);
         Ok(Known {
             units,
             bodies,
-            none,
+            none: TableForm::none(alloc),
         })
     }
 
@@ -117,7 +120,7 @@ impl Known {
         ensures units { self.new.units ≡ slice_set self.old.units net unit }
         ensures bodies { self.new.bodies ≡ slice_set self.old.bodies net body }
     {
-        self.units[net as usize] = unit;
-        self.bodies[net as usize] = body;
+        put(&mut self.units, net, unit);
+        put(&mut self.bodies, net, body);
     }
 }

@@ -12,7 +12,7 @@ ghost use Rattle.net_simplify.specs.private.Marks.{HasLabelsTo, count_at, remade
 use crate::known::Known;
 use crate::marking::mark_at;
 use crate::table_form::TableForm;
-use net_core::{Gate, Net, NetMaker};
+use net_core::{Gate, Net, NetFault, NetMaker};
 use std::alloc::{AllocError, Global};
 
 // Whether a net stands among the leaves.
@@ -42,6 +42,12 @@ fn form_of(known: &Known, net: u32) -> &TableForm
     }
 }
 
+// Out of memory: a net list that is made again has no other fault.
+fn memory(fault: NetFault) -> AllocError {
+    let _fault = fault;
+    AllocError
+}
+
 // Adds a gate.
 fn put(maker: &mut NetMaker, out: u32, inputs: &[u32], table: u64) -> Result<(), AllocError>
     requires { GateIsInside (nets maker.old) (record { out = out; inputs = inputs.now; table = table }) }
@@ -49,7 +55,7 @@ fn put(maker: &mut NetMaker, out: u32, inputs: &[u32], table: u64) -> Result<(),
 {
     match maker.gate(out, inputs, table) {
         Ok(()) => Ok(()),
-        Err(_) => Err(AllocError),
+        Err(fault) => Err(memory(fault)),
     }
 }
 
@@ -88,7 +94,7 @@ fn add_named(maker: &mut NetMaker, name: &str) -> Result<(), AllocError>
 {
     match maker.net(name) {
         Ok(_) => Ok(()),
-        Err(_) => Err(AllocError),
+        Err(fault) => Err(memory(fault)),
     }
 }
 
@@ -98,7 +104,7 @@ fn add_fresh(maker: &mut NetMaker, label: &str) -> Result<(), AllocError>
 {
     match maker.fresh(label) {
         Ok(_) => Ok(()),
-        Err(_) => Err(AllocError),
+        Err(fault) => Err(memory(fault)),
     }
 }
 
@@ -124,15 +130,15 @@ fn add_net(maker: &mut NetMaker, net: &Net, number: u32) -> Result<(), AllocErro
     }
 }
 
-// The nets of a net list, with their labels.
-fn with_labels(alloc: Global, net: &Net) -> Result<NetMaker, AllocError>
-    ensures { IfOk result (λ maker. maker ≡ record empty { labels = net.now.labels }) }
+// Adds the nets of a net list, with their labels.
+fn add_labels(maker: &mut NetMaker, net: &Net) -> Result<(), AllocError>
+    requires { maker.old ≡ empty }
+    ensures { OnOk result (maker.new ≡ record empty { labels = net.now.labels }) }
 {
-    let mut maker = NetMaker::new(alloc);
     for number in 0..net.nets() {
-        add_net(&mut maker, net, number)?;
+        add_net(maker, net, number)?;
     }
-    Ok(maker)
+    Ok(())
 }
 
 // Adds the primary inputs.
@@ -157,15 +163,25 @@ fn add_outputs(maker: &mut NetMaker, net: &Net) -> Result<(), AllocError>
     Ok(())
 }
 
+// Adds all of the net list, with the gates that the forms give.
+fn add_all(maker: &mut NetMaker, net: &Net, known: &Known, marks: &[u8]) -> Result<(), AllocError>
+    requires begun { maker.old ≡ empty }
+    requires gates { (g : GateValue) → Has net.now.gates g → GateIsInside (nets net.now) (simple_gate (count_at marks.now) (forms_of known.now) g) }
+    ensures { OnOk result (maker.new ≡ remade net.now (count_at marks.now) (forms_of known.now)) }
+{
+    add_labels(maker, net)?;
+    add_inputs(maker, net)?;
+    add_outputs(maker, net)?;
+    add_gates(maker, net, known, marks)
+}
+
 // The net list with the gates that the forms give, which are not used again.
 fn with_forms(alloc: Global, net: &Net, known: Known, marks: &[u8]) -> Result<NetMaker, AllocError>
     requires gates { (g : GateValue) → Has net.now.gates g → GateIsInside (nets net.now) (simple_gate (count_at marks.now) (forms_of known) g) }
     ensures { IfOk result (λ maker. maker ≡ remade net.now (count_at marks.now) (forms_of known)) }
 {
-    let mut maker = with_labels(alloc, net)?;
-    add_inputs(&mut maker, net)?;
-    add_outputs(&mut maker, net)?;
-    add_gates(&mut maker, net, &known, marks)?;
+    let mut maker = NetMaker::new(alloc);
+    add_all(&mut maker, net, &known, marks)?;
     Ok(maker)
 }
 
@@ -178,6 +194,6 @@ pub fn rebuilt(alloc: Global, net: &Net, known: Known, marks: &[u8]) -> Result<N
     let maker = with_forms(alloc, net, known, marks)?;
     match maker.finish() {
         Ok(made) => Ok(made),
-        Err(_) => Err(AllocError),
+        Err(fault) => Err(memory(fault)),
     }
 }

@@ -20,6 +20,5 @@ pub fn simplified(alloc: Global, net: &Net, ends: &[u32]) -> Result<Net, AllocEr
     let order = order(alloc, net)?;
     let marks = use_marks(alloc, net, ends, &order)?;
     let known = know(alloc, net, &order, &marks)?;
-    let simple = rebuilt(alloc, net, known, &marks)?;
-    Ok(simple)
+    rebuilt(alloc, net, known, &marks)
 }

@@ -1,7 +1,7 @@
 //! Units and bodies, gate by gate.
 ghost use Rattle.std.specs.Prelude.{◌≡◌, ◌<◌, ◌≤◌, length, Some, None, IfOk, OnOk};
 ghost use Rattle.net_simplify.specs.Simplified.{AreTwins, IsUnitBy};
-ghost use Rattle.net_simplify.specs.private.Catalog.{KeepsNew, TakesKept};
+ghost use Rattle.net_simplify.specs.private.Catalog.{IsKept, IsUnitFor};
 ghost use Rattle.net_simplify.specs.private.Lists.{IsBodyOver, form_at, forms_of};
 ghost use Rattle.net_simplify.specs.private.Underway.{SettlesAs, SettlesBy};
 ghost use Rattle.net_simplify.specs.declared.catalog.Catalog.{Catalog as CatalogOf};
@@ -19,14 +19,14 @@ fn over_body(alloc: Global, known: &Known, form: &TableForm) -> Result<TableForm
     ensures { IfOk result (λ body. IsBodyOver known.now.bodies form.now body) }
 {
     match form.leaves() {
-        [leaf] => {
+        [leaf, ..] => {
             if form.table() == 2 {
                 known.body(*leaf).copy(alloc)
             } else {
                 known.body(*leaf).complement(alloc)
             }
         }
-        _ => form.copy(alloc),
+        [] => form.copy(alloc),
     }
 }
 
@@ -40,12 +40,24 @@ fn unit_by(
     ensures unit { IfOk result (λ unit. AreTwins (form_at known.now.bodies net) form.now → IsUnitBy (forms_of known.now) form.now net unit) }
     ensures few { IfOk result (λ unit. length unit.leaves ≤ 1) }
 {
-    let itself = TableForm::itself(alloc, net)?;
     if known.body(net).table() == form.table() {
-        Ok(itself)
+        TableForm::itself(alloc, net)
     } else {
-        itself.complement(alloc)
+        TableForm::inverse(alloc, net)
     }
+}
+
+// The net itself, which is kept for the body of this key.
+fn keep(
+    alloc: Global,
+    catalog: &mut Catalog,
+    key: FormKey,
+    net: u32,
+) -> Result<TableForm, AllocError>
+    ensures { IfOk result (λ unit. IsKept key net catalog.old catalog.new unit) }
+{
+    catalog.add(key, net)?;
+    TableForm::itself(alloc, net)
 }
 
 // The unit of a gate's net whose function has more leaves than one: the first net with this body, or its own.
@@ -56,17 +68,12 @@ fn shared_unit(
     form: &TableForm,
     net: u32,
 ) -> Result<TableForm, AllocError>
-    ensures found { IfOk result (λ unit. TakesKept known.now form.now catalog.old catalog.new unit) }
-    ensures added { IfOk result (λ unit. KeepsNew form.now net catalog.old catalog.new unit) }
-    ensures few { IfOk result (λ unit. length unit.leaves ≤ 1) }
+    ensures { IfOk result (λ unit. IsUnitFor known.now form.now net catalog.old catalog.new unit) }
 {
     let key = FormKey::new(alloc, form)?;
     match catalog.net(&key) {
         Some(first) => unit_by(alloc, known, form, first),
-        None => {
-            catalog.add(key, net)?;
-            TableForm::itself(alloc, net)
-        }
+        None => keep(alloc, catalog, key, net),
     }
 }
 

@@ -43,12 +43,28 @@ impl TableForm {
         TableForm::new(SmallVec::new(alloc), 0)
     }
 
+    // The form with a copy of these leaves, and this table.
+    fn over(alloc: Global, leaves: &[u32], table: u64) -> Result<TableForm, AllocError>
+        requires few { length leaves.now ≤ 6 }
+        requires fits { table < 2 ^ (2 ^ length leaves.now) }
+        ensures { IfOk result (λ f. f ≡ record { leaves = leaves.now; table = table }) }
+    {
+        let leaves = SmallVec::from_slice(alloc, leaves)?;
+        Ok(TableForm::new(leaves, table))
+    }
+
     /// The net itself.
     pub(crate) fn itself(alloc: Global, net: u32) -> Result<TableForm, AllocError>
         ensures { IfOk result (λ f. f ≡ itself net) }
     {
-        let leaves = SmallVec::from_slice(alloc, &[net])?;
-        Ok(TableForm::new(leaves, 2))
+        TableForm::over(alloc, &[net], 2)
+    }
+
+    /// The net's complement.
+    pub(crate) fn inverse(alloc: Global, net: u32) -> Result<TableForm, AllocError>
+        ensures { IfOk result (λ f. f ≡ complement (itself net)) }
+    {
+        TableForm::over(alloc, &[net], 1)
     }
 
     /// Its leaves, the lowest bit of the table's index first.
@@ -79,8 +95,7 @@ impl TableForm {
     pub(crate) fn copy(&self, alloc: Global) -> Result<TableForm, AllocError>
         ensures { IfOk result (λ f. f ≡ self.now) }
     {
-        let leaves = SmallVec::from_slice(alloc, self.leaves())?;
-        Ok(TableForm::new(leaves, self.table()))
+        TableForm::over(alloc, self.leaves(), self.table())
     }
 
     /// The form without the leaf at this place, with this table.
@@ -98,8 +113,7 @@ impl TableForm {
     pub(crate) fn complement(&self, alloc: Global) -> Result<TableForm, AllocError>
         ensures { IfOk result (λ f. f ≡ complement self.now) }
     {
-        let leaves = SmallVec::from_slice(alloc, self.leaves())?;
-        Ok(TableForm::new(leaves, self.turned_table()))
+        TableForm::over(alloc, self.leaves(), self.turned_table())
     }
 
     /// The table of the complement.

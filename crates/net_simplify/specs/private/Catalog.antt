@@ -46,10 +46,13 @@ IsFound used gates i forms form None = (j : ℕ) (g : GateValue) → j < i → s
 abbrev pub IsCatalog : (ℕ → ℕ) → List GateValue → ℕ → Forms → Catalog → Type 0
 IsCatalog used gates i forms catalog = (form : Form) → IsForm form → 2 ≤ length form.leaves → IsFound used gates i forms form (net_of catalog (twin_key form))
 
--- where a net is kept for the body, the catalog stays, and the unit is that net, or its complement where the body is that of its own
-abbrev pub TakesKept : FormLists → Form → Catalog → Catalog → Form → Type 0
-TakesKept lists form old new unit = (m : ℕ) → net_of old (twin_key form) ≡ Some m → (new ≡ old) × (AreTwins (form_at lists.bodies m) form → IsUnitBy (forms_of lists) form m unit)
+-- the unit is this net, which is kept for the key from then on
+abbrev pub IsKept : List ℕ → ℕ → Catalog → Catalog → Form → Type 0
+IsKept key net old new unit = (unit ≡ itself net) × ((q : List ℕ) → net_of new q ≡ cond (bytes_eq q key) (Some net) (net_of old q))
 
--- where none is kept for it, the unit is this net, which is kept from then on
-abbrev pub KeepsNew : Form → ℕ → Catalog → Catalog → Form → Type 0
-KeepsNew form net old new unit = net_of old (twin_key form) ≡ None → (unit ≡ itself net) × ((q : List ℕ) → net_of new q ≡ cond (bytes_eq q (twin_key form)) (Some net) (net_of old q))
+-- What is asked of the unit of a body of more leaves. Where a net is kept for the body, the catalog stays, and the unit is that
+-- net, or its complement where the body is that of its own; where none is, the unit is this net, which is kept from then on.
+pub record IsUnitFor (lists : FormLists) (body : Form) (net : ℕ) (old new : Catalog) (unit : Form) : Type 0 where
+  pub found : (m : ℕ) → net_of old (twin_key body) ≡ Some m → (new ≡ old) × (AreTwins (form_at lists.bodies m) body → IsUnitBy (forms_of lists) body m unit)
+  pub added : net_of old (twin_key body) ≡ None → IsKept (twin_key body) net old new unit
+  pub few : length unit.leaves ≤ 1

@@ -4,7 +4,7 @@ use Rattle.std.specs.Int.{bit_at}
 use Rattle.std.specs.Option.{option_map_or}
 use Rattle.lists.specs.Lists.{Has}
 use Rattle.net_core.specs.Value.{bit_of, index_of}
-use Rattle.net_simplify.specs.Form.{Form, value, IsForm, IsRising, DependsOn, IsComposed, index_by}
+use Rattle.net_simplify.specs.Form.{Form, value, IsForm, IsRising, DependsOn, IsComposed, index_by, itself}
 use Rattle.net_simplify.specs.Choice.{Forms, leaves_of}
 
 -- the units and the bodies by net
@@ -19,6 +19,14 @@ no_form = record { leaves = []; table = 0 }
 -- the form of a net, where the list has one
 abbrev pub form_at : List Form → ℕ → Form
 form_at forms n = unwrap_or (slice_get forms n) no_form
+
+-- the first nets, each itself
+abbrev pub AreThemselves : List Form → ℕ → Type 0
+AreThemselves forms count = (length forms ≡ count) × ((n : ℕ) → n < count → form_at forms n ≡ itself n)
+
+-- so many nets, of which each is itself
+abbrev pub AreAllThemselves : ℕ → FormLists → Type 0
+AreAllThemselves count lists = AreThemselves lists.units count × AreThemselves lists.bodies count
 
 -- the units and bodies of the lists
 abbrev pub forms_of : FormLists → Forms

@@ -1,4 +1,4 @@
-use Rattle.net_simplify.proofs.SettleLemmas.{AreThemselves}
+use Rattle.net_simplify.specs.private.Lists.{AreThemselves}
 use Rattle.net_simplify.proofs.known.themselves.Given as goal
 
 abbrev pub invariant-loop-net : goal.invariant-loop-net
