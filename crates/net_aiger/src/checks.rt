@@ -9,7 +9,6 @@ ghost use Rattle.net_aiger.specs.private.Shared.{AreNoted, HasNoneAlone};
 
 use crate::AigerFault;
 use crate::reader::{Reader, even};
-use crate::reading::Use;
 use crate::shared::PortSet;
 use indexmap::IndexSet;
 use net_core::{KeyedHash, Name};
@@ -169,20 +168,6 @@ impl Reader {
     }
 }
 
-// Refuses the first use of a variable without a definition. What is used twice in a row is looked up once.
-fn check_uses(reader: &Reader, uses: &[Use]) -> Result<(), AigerFault>
-    ensures { result ≡ known reader.now.defined uses.now }
-{
-    let mut last = 0;
-    for one in uses {
-        if !reader.is_known_after(last, one.literal) {
-            return Err(AigerFault::Undefined { line: one.line });
-        }
-        last = one.literal;
-    }
-    Ok(())
-}
-
 // Refuses the first port whose name an earlier one has.
 fn check_ports(
     reader: &Reader,
@@ -203,11 +188,18 @@ fn check_ports(
 }
 
 impl Reader {
-    /// Refuses the first line that uses a variable without a definition.
+    /// Refuses the first line that uses a variable without a definition. What is used twice in a row is looked up once.
     pub(crate) fn check_known(&self) -> Result<(), AigerFault>
         ensures { result ≡ known self.now.defined self.now.uses }
     {
-        check_uses(self, self.uses())
+        let mut last = 0;
+        for one in self.uses() {
+            if !self.is_known_after(last, one.literal) {
+                return Err(AigerFault::Undefined { line: one.line });
+            }
+            last = one.literal;
+        }
+        Ok(())
     }
 
     /// Refuses the first input, latch or output with the name of an earlier one; an output that is one of them is passed over.
@@ -217,7 +209,7 @@ impl Reader {
         ensures fault { IfErr result (λ e. (e ≡ AigerFault.OutOfMemory) ⊎ (apart self.now 0 [] self.now.ports ≡ Err e)) }
     {
         let ports = self.ports();
-        if self.are_unnamed() {
+        if self.symbols() == 0 {
             return Ok(());
         }
         let shared = self.shared_ports(key)?;

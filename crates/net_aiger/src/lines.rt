@@ -1,10 +1,10 @@
 //! Lines, one after another.
-ghost use Rattle.std.specs.Prelude.{◌≡◌, ◌⊎◌, ◌++◌, ◌∷◌, [], nat_le, Ok, Err, IfErr, OnOk, length};
-ghost use Rattle.net_aiger.specs.private.Run.{and_line as and_says, define as defines, input_line as input_says, latch_of as latch_that, number_line as numbers_say, one_line as line_says, output_line as output_says, section_line as section_says, start_of as start_that, with_latch};
+ghost use Rattle.std.specs.Prelude.{◌≡◌, ◌++◌, ◌∷◌, [], IfErr, OnOk, nat_le, length};
+ghost use Rattle.net_aiger.specs.private.Run.{Follows, and_line as and_says, define as defines, input_line as input_says, latch_of as latch_that, number_line as numbers_say, one_line as line_says, output_line as output_says, section_line as section_says, start_of as start_that, with_latch};
 ghost use Rattle.net_aiger.specs.Numbers.{numbers_of, words_of};
 
 use crate::AigerFault;
-use crate::numbers::{lone_number, numbers_in};
+use crate::numbers::{number, numbers_in};
 use crate::reader::Reader;
 use crate::reading::{AndLine, LatchLine, Use};
 use net_core::Start;
@@ -56,8 +56,7 @@ impl Reader {
 
     // Defines a literal on a line that uses two others.
     fn define(&mut self, line: u32, literal: u32, left: u32, right: u32) -> Result<(), AigerFault>
-        ensures made { OnOk result (defines line literal left right self.old ≡ Ok self.new) }
-        ensures fault { IfErr result (λ e. (e ≡ AigerFault.OutOfMemory) ⊎ (defines line literal left right self.old ≡ Err e)) }
+        ensures { Follows result self.new (defines line literal left right self.old) }
     {
         if !self.header.fits(literal, left, right) {
             return Err(AigerFault::Literal { line });
@@ -83,8 +82,7 @@ impl Reader {
 
     // What a line of an input says.
     fn input_line(&mut self, line: u32, numbers: &[u32]) -> Result<(), AigerFault>
-        ensures made { OnOk result (input_says line numbers.now self.old ≡ Ok self.new) }
-        ensures fault { IfErr result (λ e. (e ≡ AigerFault.OutOfMemory) ⊎ (input_says line numbers.now self.old ≡ Err e)) }
+        ensures { Follows result self.new (input_says line numbers.now self.old) }
     {
         let [literal] = numbers else {
             return Err(AigerFault::Syntax { line });
@@ -96,8 +94,7 @@ impl Reader {
 
     // What a line of a latch says.
     fn latch_line(&mut self, line: u32, latch: Option<LatchLine>) -> Result<(), AigerFault>
-        ensures made { OnOk result (with_latch line latch self.old ≡ Ok self.new) }
-        ensures fault { IfErr result (λ e. (e ≡ AigerFault.OutOfMemory) ⊎ (with_latch line latch self.old ≡ Err e)) }
+        ensures { Follows result self.new (with_latch line latch self.old) }
     {
         let Some(latch) = latch else {
             return Err(AigerFault::Syntax { line });
@@ -111,8 +108,7 @@ impl Reader {
 
     // What a line of an output says.
     fn output_line(&mut self, line: u32, numbers: &[u32]) -> Result<(), AigerFault>
-        ensures made { OnOk result (output_says line numbers.now self.old ≡ Ok self.new) }
-        ensures fault { IfErr result (λ e. (e ≡ AigerFault.OutOfMemory) ⊎ (output_says line numbers.now self.old ≡ Err e)) }
+        ensures { Follows result self.new (output_says line numbers.now self.old) }
     {
         let [literal] = numbers else {
             return Err(AigerFault::Syntax { line });
@@ -127,8 +123,7 @@ impl Reader {
 
     // What a line of an AND says.
     fn and_line(&mut self, line: u32, numbers: &[u32]) -> Result<(), AigerFault>
-        ensures made { OnOk result (and_says line numbers.now self.old ≡ Ok self.new) }
-        ensures fault { IfErr result (λ e. (e ≡ AigerFault.OutOfMemory) ⊎ (and_says line numbers.now self.old ≡ Err e)) }
+        ensures { Follows result self.new (and_says line numbers.now self.old) }
     {
         let [literal, left, right] = numbers else {
             return Err(AigerFault::Syntax { line });
@@ -147,8 +142,7 @@ impl Reader {
 
     // What a line of numbers says, by what stands before it.
     fn section_line(&mut self, line: u32, numbers: &[u32]) -> Result<(), AigerFault>
-        ensures made { OnOk result (section_says line numbers.now self.old ≡ Ok self.new) }
-        ensures fault { IfErr result (λ e. (e ≡ AigerFault.OutOfMemory) ⊎ (section_says line numbers.now self.old ≡ Err e)) }
+        ensures { Follows result self.new (section_says line numbers.now self.old) }
     {
         let ports = self.ports.len() as u64;
         if ports < u64::from(self.header.inputs) {
@@ -164,8 +158,7 @@ impl Reader {
 
     // What a line says that is to say numbers, which are put into a list.
     fn listed_line(&mut self, line: u32, bytes: &[u8]) -> Result<(), AigerFault>
-        ensures made { OnOk result (numbers_say line (numbers_of (words_of bytes.now)) self.old ≡ Ok self.new) }
-        ensures fault { IfErr result (λ e. (e ≡ AigerFault.OutOfMemory) ⊎ (numbers_say line (numbers_of (words_of bytes.now)) self.old ≡ Err e)) }
+        ensures { Follows result self.new (numbers_say line (numbers_of (words_of bytes.now)) self.old) }
     {
         let Some(numbers) = numbers_in(self.alloc, bytes)? else {
             return Err(AigerFault::Syntax { line });
@@ -175,10 +168,9 @@ impl Reader {
 
     // What a line says that is to say numbers. One that is a number alone, as an input's and an output's, needs no list.
     fn number_line(&mut self, line: u32, bytes: &[u8]) -> Result<(), AigerFault>
-        ensures made { OnOk result (numbers_say line (numbers_of (words_of bytes.now)) self.old ≡ Ok self.new) }
-        ensures fault { IfErr result (λ e. (e ≡ AigerFault.OutOfMemory) ⊎ (numbers_say line (numbers_of (words_of bytes.now)) self.old ≡ Err e)) }
+        ensures { Follows result self.new (numbers_say line (numbers_of (words_of bytes.now)) self.old) }
     {
-        match lone_number(bytes) {
+        match number(bytes) {
             Some(number) => self.section_line(line, &[number]),
             None => self.listed_line(line, bytes),
         }
@@ -186,8 +178,7 @@ impl Reader {
 
     /// What one more line says.
     pub(crate) fn read_line(&mut self, line: u32, bytes: &[u8]) -> Result<(), AigerFault>
-        ensures made { OnOk result (line_says line bytes.now self.old ≡ Ok self.new) }
-        ensures fault { IfErr result (λ e. (e ≡ AigerFault.OutOfMemory) ⊎ (line_says line bytes.now self.old ≡ Err e)) }
+        ensures { Follows result self.new (line_says line bytes.now self.old) }
     {
         if self.is_complete() {
             self.symbol_line(line, bytes)

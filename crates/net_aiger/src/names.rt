@@ -1,10 +1,10 @@
 //! Names of inputs, latches and outputs.
-ghost use Rattle.std.specs.Prelude.{◌≡◌, ◌⊎◌, ◌+◌, ◌++◌, ◌∷◌, [], nat_eq, None, Some, Ok, Err, IfErr, OnOk, drop};
+ghost use Rattle.std.specs.Prelude.{◌≡◌, ◌+◌, ◌++◌, ◌∷◌, [], nat_eq, None, Some, OnOk, drop};
 ghost use Rattle.std.specs.List.{list_all};
 ghost use Rattle.std.specs.Map.{lookup};
 ghost use Rattle.net_core.specs.Inside.{IsNetName};
 ghost use Rattle.net_aiger.specs.Spelling.{is_port_name as may_name, is_shown, port_at as port_that};
-ghost use Rattle.net_aiger.specs.private.Run.{before_space as front_of, named, symbol_line as symbol_says};
+ghost use Rattle.net_aiger.specs.private.Run.{Follows, before_space as front_of, named, symbol_line as symbol_says};
 
 use crate::AigerFault;
 use crate::numbers::number;
@@ -41,7 +41,12 @@ fn behind(bytes: &[u8], count: usize) -> &[u8]
 fn are_shown(bytes: &[u8]) -> bool
     ensures { result ≡ list_all is_shown bytes.now }
 {
-    bytes.iter().all(|b| 0x20 <= *b && *b <= 0x7e)
+    for byte in bytes {
+        if *byte < 0x20 || 0x7e < *byte {
+            return false;
+        }
+    }
+    true
 }
 
 // Whether bytes can name a port.
@@ -79,8 +84,7 @@ impl Reader {
 
     // Gives a port a name, if it has none.
     fn give_name(&mut self, line: u32, name: &[u8], port: u64) -> Result<(), AigerFault>
-        ensures made { OnOk result (named line name.now (Some port) self.old ≡ Ok self.new) }
-        ensures fault { IfErr result (λ e. (e ≡ AigerFault.OutOfMemory) ⊎ (named line name.now (Some port) self.old ≡ Err e)) }
+        ensures { Follows result self.new (named line name.now (Some port) self.old) }
     {
         if !is_port_name(name) || self.symbols.contains_key(&port) {
             return Err(AigerFault::Syntax { line });
@@ -95,8 +99,7 @@ impl Reader {
 
     /// What a line behind the numbers says: a letter, a place, a space and a name.
     pub(crate) fn symbol_line(&mut self, line: u32, bytes: &[u8]) -> Result<(), AigerFault>
-        ensures made { OnOk result (symbol_says line bytes.now self.old ≡ Ok self.new) }
-        ensures fault { IfErr result (λ e. (e ≡ AigerFault.OutOfMemory) ⊎ (symbol_says line bytes.now self.old ≡ Err e)) }
+        ensures { Follows result self.new (symbol_says line bytes.now self.old) }
     {
         let [letter, rest @ ..] = bytes else {
             return Err(AigerFault::Syntax { line });

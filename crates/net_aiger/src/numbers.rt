@@ -6,21 +6,15 @@ ghost use Rattle.net_aiger.specs.Numbers.{number_of, numbers_of, words_of};
 use std::alloc::{AllocError, Global};
 use text_core::read_decimal;
 
-/// The number that a word says, which is below 2^32.
+/// The number that a word says, which is below 2^32. As a line the word says that number alone. It takes no memory.
 pub(crate) fn number(word: &[u8]) -> Option<u32>
-    ensures { result ≡ number_of word.now }
+    ensures value { result ≡ number_of word.now }
+    ensures alone { IfSome result (λ n. numbers_of (words_of word.now) ≡ Some (n ∷ [])) }
 {
     match read_decimal(word, 4_294_967_295) {
         Some(number) => Some(number as u32),
         None => None,
     }
-}
-
-/// The number that a line says whose only word it is, without a space. It takes no memory.
-pub(crate) fn lone_number(line: &[u8]) -> Option<u32>
-    ensures { IfSome result (λ n. numbers_of (words_of line.now) ≡ Some (n ∷ [])) }
-{
-    number(line)
 }
 
 /// The words of a line, which spaces separate.
@@ -51,6 +45,5 @@ pub(crate) fn numbers_in(alloc: Global, line: &[u8]) -> Result<Option<Vec<u32>>,
     ensures { IfOk result (λ found. option_map (λ v. v.items) found ≡ numbers_of (words_of line.now)) }
 {
     let words = words(alloc, line)?;
-    let found = numbers(alloc, &words)?;
-    Ok(found)
+    numbers(alloc, &words)
 }

@@ -1,5 +1,5 @@
 //! What was read of a text.
-ghost use Rattle.std.specs.Prelude.{◌≡◌, ◌<◌, ◌^◌, ◌++◌, [], IfOk, IfSome, drop, length, slice_get, true, Some};
+ghost use Rattle.std.specs.Prelude.{◌≡◌, ◌<◌, ◌^◌, ◌++◌, IfOk, IfSome, drop, length, slice_get, Some};
 ghost use Rattle.std.specs.Fmt.{decimal};
 ghost use Rattle.std.specs.Option.{option_map};
 ghost use Rattle.net_core.specs.Inside.{IsNetName};
@@ -133,13 +133,6 @@ impl Reader {
         ensures small { length result.now < 2 ^ 63 }
     {
         self.ports.as_slice()
-    }
-
-    /// Whether no port is given a name.
-    pub(crate) fn are_unnamed(&self) -> bool
-        ensures { result ≡ true → self.now.symbols ≡ [] }
-    {
-        self.symbols.is_empty()
     }
 
     /// How many names are given.

@@ -1,6 +1,6 @@
 -- What the reader knows after each line, or the first fault: for the clauses of private functions. Its states follow the sections.
 -- Source: this project's own.
-use Rattle.std.specs.Prelude.{ℕ, ◌+◌, ◌==◌, ◌&&◌, not, Bool, nat_lt, nat_le, nat_eq, List, [], ◌∷◌, ◌++◌, Option, None, Some, drop, take_while, length, codes, is_some, Result, Ok, Err, if◌then◌else◌}
+use Rattle.std.specs.Prelude.{◌≡◌, ◌⊎◌, ℕ, ◌+◌, ◌==◌, ◌&&◌, not, Bool, nat_lt, nat_le, nat_eq, List, [], ◌∷◌, ◌++◌, Option, None, Some, drop, take_while, length, codes, is_some, Result, Ok, Err, if◌then◌else◌}
 use Rattle.std.specs.Map.{lookup}
 use Rattle.std.specs.Option.{option_map}
 use Rattle.std.specs.Str.{bytes_eq}
@@ -12,9 +12,16 @@ use Rattle.net_aiger.specs.Sections.{fits, within}
 use Rattle.net_aiger.specs.Spelling.{counts, is_header, is_port_name, left_out, port_at}
 use Rattle.net_aiger.specs.Steps.{◌>>=◌}
 use Rattle.net_aiger.specs.declared.fault.AigerFault.{AigerFault}
-use Rattle.net_aiger.specs.declared.fault.AigerFault.TheVariants.{Syntax, Literal, DefinedTwice}
+use Rattle.net_aiger.specs.declared.fault.AigerFault.TheVariants.{Syntax, Literal, DefinedTwice, OutOfMemory}
 use Rattle.net_aiger.specs.declared.reading.Header.{Header}
 use Rattle.net_aiger.specs.declared.reading.LatchLine.{LatchLine}
+
+-- ---- a step
+
+-- after a step the reader knows what the step says; its fault is that of the step, or memory ran out
+abbrev pub Follows : Result (Unit {0}) AigerFault → Reading → Result Reading AigerFault → Type 0
+Follows (Ok done) new said = said ≡ Ok new
+Follows (Err fault) new said = (fault ≡ OutOfMemory) ⊎ (said ≡ Err fault)
 
 -- ---- the header
 

@@ -19,7 +19,7 @@ pub returns-in_err-read_line-clause-fault : goal.returns-in_err-read_line-clause
 returns-in_err-read_line-clause-fault c =
     let further : ends c.next_line.result.0.now c.loop-rest.reader ≡ false = search rules in
     let fault : (c.in_err-read_line.field-0.0 ≡ OutOfMemory) ⊎ (lines_read 2 (lines c.args.text.now) c.args.reader.now ≡ Err c.in_err-read_line.field-0.0) =
-    refused_lines c.loop-rest.number (lines c.loop-rest.rest.now) (lines c.next_line.result.1.now) c.next_line.result.0.now c.loop-rest.reader c.next_line.ensures.lines _ c.in_err-read_line.field-0.0 c.loop-rest.invariant.same further c.in_err-read_line.ensures.fault in
+    refused_lines c.loop-rest.number (lines c.loop-rest.rest.now) (lines c.next_line.result.1.now) c.next_line.result.0.now c.loop-rest.reader c.next_line.ensures.lines _ c.in_err-read_line.field-0.0 c.loop-rest.invariant.same further c.in_err-read_line.ensures in
     search rules
 
 pub loop-rest-preserved : goal.loop-rest-preserved
@@ -27,5 +27,5 @@ loop-rest-preserved c =
     let further : ends c.next_line.result.0.now c.loop-rest.reader ≡ false = search rules in
     record {
       few = omega (arith, c.loop-rest.invariant.few, c.next_line.ensures.shorter);
-      same = c.loop-rest.invariant.same ∙ one_read c.loop-rest.number (lines c.loop-rest.rest.now) (lines c.next_line.result.1.now) c.next_line.result.0.now c.loop-rest.reader c.next_line.ensures.lines c.read_line.new.self further c.in_ok-read_line.ensures.made;
+      same = c.loop-rest.invariant.same ∙ one_read c.loop-rest.number (lines c.loop-rest.rest.now) (lines c.next_line.result.1.now) c.next_line.result.0.now c.loop-rest.reader c.next_line.ensures.lines c.read_line.new.self further c.in_ok-read_line.ensures;
     }
