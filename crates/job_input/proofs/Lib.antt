@@ -1,3 +1,4 @@
+pub mod StopLemmas
 pub mod FieldLemmas
 pub mod SignedLemmas
 pub mod BlockWordLemmas
@@ -5,6 +6,7 @@ pub mod SettingWordLemmas
 pub mod SettingSoundLemmas
 pub mod SettingDetermined
 pub mod BasesLemmas
+pub mod BlockBasesLemmas
 pub mod PolyBasisLemmas
 pub mod PlaceLemmas
 pub mod NetlistLemmas
@@ -13,6 +15,7 @@ pub mod NetlistDetermined
 pub mod RoleLemmas
 pub mod CountLemmas
 pub mod LabelLemmas
+pub mod OutputNameLemmas
 pub mod CircuitLabelLemmas
 pub mod CircuitLemmas
 pub mod CycleLemmas

@@ -1,1 +1,2 @@
 pub mod NetlistReading
+pub mod Stops

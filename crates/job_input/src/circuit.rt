@@ -15,11 +15,11 @@ ghost use Rattle.job_input.specs.declared.setting.Setting.{Setting as SettingOfJ
 use crate::bound::BoundNetlist;
 use crate::cycles::all_cycles;
 use crate::files::read_file;
-use crate::netlist::{Refusal, bound_net};
+use crate::netlist::bound_net;
 use crate::setting::Setting;
+use crate::stops::netlist_stop;
 use job_io::Shelf;
-use job_words::{Fault, Stop};
-use net_core::Name;
+use job_words::Stop;
 use net_signature::Signature;
 use net_words::Combinational;
 use std::alloc::Global;
@@ -57,11 +57,9 @@ fn netlist_of(
     ensures gives { GivesBy (λ netlist. netlist) result (Within (Netlist file.now) (BoundNetOf signature.now (by_ending file.now text.items))) ⊥ ⊥ }
     ensures bits { IfOk result (λ netlist. netlist.binding.k ≡ bits_of signature.now.words) }
 {
-    let name = Name::new(alloc, file)?;
     match bound_net(alloc, signature, file, text) {
         Ok(netlist) => Ok(netlist),
-        Err(Refusal::Fault(fault)) => Err(Stop::Refused(Fault::Netlist { file: name, fault })),
-        Err(Refusal::OutOfMemory) => Err(Stop::OutOfMemory),
+        Err(refusal) => Err(netlist_stop(alloc, file, refusal)),
     }
 }
 
@@ -77,11 +75,9 @@ pub fn unroll_netlist(
     ensures gives { GivesBy (λ circuit. circuit) result (UnrolledIn file.now netlist cycles) ⊥ ⊥ }
     ensures taken { IfOk result (λ circuit. (k : ℕ) (setting : SettingOfJob) → IsTakenFor k setting netlist → IsTakenFor k setting circuit) }
 {
-    let name = Name::new(alloc, file)?;
     match all_cycles(alloc, netlist, cycles) {
         Ok(circuit) => Ok(circuit),
-        Err(Refusal::Fault(fault)) => Err(Stop::Refused(Fault::Netlist { file: name, fault })),
-        Err(Refusal::OutOfMemory) => Err(Stop::OutOfMemory),
+        Err(refusal) => Err(netlist_stop(alloc, file, refusal)),
     }
 }
 

@@ -5,6 +5,7 @@ ghost use Rattle.job_words.specs.Stop.{bytes_of};
 ghost use Rattle.job_words.specs.declared.fault.Fault.TheVariants.{File};
 ghost use Rattle.job_input.specs.File.{Read};
 ghost use Rattle.job_input.specs.Reads.{GivesOver};
+ghost use Rattle.job_input.specs.private.Stops.{IsFileStop};
 
 use job_io::{Shelf, ShelfFault};
 use job_words::{Fault, FileFault, Stop};
@@ -22,15 +23,24 @@ pub fn read_file<S: Shelf>(alloc: Global, shelf: &mut S, name: &str) -> Result<V
 {
     match shelf.read(alloc, name, LIMIT) {
         Ok(bytes) => Ok(bytes),
-        Err(ShelfFault::Absent) => {
-            let file = Name::new(alloc, name)?;
-            Err(Stop::Refused(Fault::File(FileFault::Absent { file })))
-        }
-        Err(ShelfFault::TooLong { .. }) => {
-            let file = Name::new(alloc, name)?;
-            Err(Stop::Refused(Fault::File(FileFault::TooLong { file })))
-        }
-        Err(ShelfFault::Failed) => Err(Stop::Outside),
-        Err(ShelfFault::OutOfMemory) => Err(Stop::OutOfMemory),
+        Err(fault) => Err(file_stop(alloc, name, fault)),
+    }
+}
+
+// Why no bytes come of a file.
+fn file_stop(alloc: Global, name: &str, fault: ShelfFault) -> Stop
+    ensures { IsFileStop name.now fault result }
+{
+    match fault {
+        ShelfFault::Absent => match Name::new(alloc, name) {
+            Ok(file) => Stop::Refused(Fault::File(FileFault::Absent { file })),
+            Err(_) => Stop::OutOfMemory,
+        },
+        ShelfFault::TooLong { .. } => match Name::new(alloc, name) {
+            Ok(file) => Stop::Refused(Fault::File(FileFault::TooLong { file })),
+            Err(_) => Stop::OutOfMemory,
+        },
+        ShelfFault::Failed => Stop::Outside,
+        ShelfFault::OutOfMemory => Stop::OutOfMemory,
     }
 }

@@ -13,10 +13,10 @@ ghost use Rattle.job_input.specs.private.NetlistReading.{FitsNetlist};
 use crate::files::read_file;
 use crate::netlist::{Refusal, blif_design, bound_to, model_fault, text_fault};
 use crate::setting::Setting;
+use crate::stops::netlist_stop;
 use job_io::Shelf;
-use job_words::{Fault, Stop};
+use job_words::Stop;
 use net_blif::Design;
-use net_core::Name;
 use net_flat::flatten;
 use net_signature::Signature;
 use std::alloc::Global;
@@ -54,11 +54,9 @@ fn hierarchy_of(
     ensures gives { GivesBy (λ design. design) result (Within (Netlist file.now) (HierarchyOf signature.now text.items)) ⊥ ⊥ }
     ensures top { IfOk result (λ design. TopBinds signature.now design (Ok tt)) }
 {
-    let name = Name::new(alloc, file)?;
     match design_of(alloc, signature, text) {
         Ok(design) => Ok(design),
-        Err(Refusal::Fault(fault)) => Err(Stop::Refused(Fault::Netlist { file: name, fault })),
-        Err(Refusal::OutOfMemory) => Err(Stop::OutOfMemory),
+        Err(refusal) => Err(netlist_stop(alloc, file, refusal)),
     }
 }
 

@@ -30,7 +30,7 @@ fn output_name<'a>(words: &'a [WordText]) -> &'a str
     ensures is_name { IsName result.now }
 {
     for word in words {
-        if word.role == Role::Output {
+        if let Role::Output = word.role {
             return word.name.as_str();
         }
     }

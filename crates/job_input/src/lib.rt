@@ -19,6 +19,7 @@ mod second;
 mod setting;
 mod signed;
 mod specification;
+mod stops;
 mod table_file;
 
 pub use bound::BoundNetlist;

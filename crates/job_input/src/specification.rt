@@ -6,6 +6,7 @@ ghost use Rattle.job_words.specs.Stop.{GivesBy};
 ghost use Rattle.job_words.specs.declared.fault.Fault.TheVariants.{Specification};
 ghost use Rattle.job_input.specs.Reads.{ReadsOver};
 ghost use Rattle.job_input.specs.SpecificationIn.{SpecificationOf, SpecificationIn};
+ghost use Rattle.job_input.specs.private.Stops.{specification_stop};
 
 use crate::files::read_file;
 use gf_field::Field;
@@ -50,14 +51,19 @@ fn specification_of<F: Field>(
 {
     match read_spec(alloc, field, text, labels) {
         Ok(spec) => Ok(spec),
-        Err(SpecFault::Syntax { place }) => Err(refused(SpecificationFault::Syntax { place })),
-        Err(SpecFault::UnknownWord { place }) => {
-            Err(refused(SpecificationFault::UnknownWord { place }))
-        }
-        Err(SpecFault::BadNumber { place }) => {
-            Err(refused(SpecificationFault::BadNumber { place }))
-        }
-        Err(SpecFault::OutOfMemory) => Err(Stop::OutOfMemory),
+        Err(fault) => Err(text_stop(fault)),
+    }
+}
+
+// What a fault of a specification's text ends with.
+fn text_stop(fault: SpecFault) -> Stop
+    ensures { result ≡ specification_stop fault }
+{
+    match fault {
+        SpecFault::Syntax { place } => refused(SpecificationFault::Syntax { place }),
+        SpecFault::UnknownWord { place } => refused(SpecificationFault::UnknownWord { place }),
+        SpecFault::BadNumber { place } => refused(SpecificationFault::BadNumber { place }),
+        SpecFault::OutOfMemory => Stop::OutOfMemory,
     }
 }
 

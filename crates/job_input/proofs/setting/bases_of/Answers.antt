@@ -1,4 +1,4 @@
-use Rattle.std.proofs.Common.{rules, Vec, Global, List, ℕ}
+use Rattle.std.proofs.Common.{Vec, Global, List, ℕ}
 use Rattle.outcome.specs.Outcome.{Within}
 use Rattle.gf_basis.specs.BasisParts.{elements_of}
 use Rattle.gf_basis.specs.declared.bases.Basis.{Basis}
@@ -33,4 +33,10 @@ pub returns-clause-gives : goal.returns-clause-gives
 returns-clause-gives g c =
     let k = g.F.Ring.degree c.args.poly.now.field.now in
     let product = g.F.Ring.product c.args.poly.now.field.now in
-    c.loop-word.invariant.1 _ (rest_end k product (elements_of_each c.loop-word.bases.items) c.args.words.now c.loop-word.word-index (search rules))
+    c.loop-word.invariant.1 _ (rest_end k product (elements_of_each c.loop-word.bases.items) c.args.words.now c.loop-word.word-index c.loop-word-test.false)
+
+pub returns-clause-over : goal.returns-clause-over
+returns-clause-over g c = c.loop-word.invariant.0
+
+pub returns-in-Err-clause-over : goal.returns-in-Err-clause-over
+returns-in-Err-clause-over g c = tt
