@@ -1,5 +1,5 @@
 -- What the walk over the lines of the top finds.
-use Rattle.std.proofs.Common.{◌≡◌, ◌∙◌, ap, sym, refl, subst, inl, inr, ℕ, zero, suc, ◌<◌, ◌+◌, true, cond, List, [], ◌∷◌, ◌++◌, length, drop, Some, Ok, Err, append_assoc}
+use Rattle.std.proofs.Common.{◌≡◌, ◌∙◌, ap, sym, refl, subst, inl, inr, ℕ, zero, suc, ◌<◌, ◌≤◌, ◌+◌, true, cond, List, [], ◌∷◌, ◌++◌, length, drop, Some, Ok, Err, append-nil, append_assoc, drop_of_length-le}
 use Rattle.std.specs.Prelude.{filter, slice_get}
 use Rattle.lists.specs.laws.ReadLaws.{get_here}
 use Rattle.outcome.specs.ForEach.{ForEach, IsFirstFault}
@@ -92,6 +92,12 @@ module _ (design : List ModelValue) (blocks : List BlockValue) where
 
         first : (e : PlanFault) → NumberOf blocks item (Err e) → IsFirstFault (NumberOf blocks) (filter is_instance items) e
         first e refused = record { place = length walked.front; element = item; at = instance_at is; is = refused; before = before }
+
+-- past the last line all instances are found
+pub all_walked : (design : List ModelValue) (blocks : List BlockValue) (items : List Item) (n : ℕ) (list : List Found) → IsWalked design blocks items n list → length items ≤ n → AreFound design blocks (filter is_instance items) list
+all_walked design blocks items n list walked past =
+    let P : List Item → Type 0 = λ instances. AreFound design blocks instances list in
+    subst P (sym (walked.whole ∙ ap (λ rest. walked.front ++ filter is_instance rest) (drop_of_length-le items {i = n} past) ∙ append-nil walked.front)) walked.found
 
 -- an instance of a design has a model
 pub has_model : (design : List ModelValue) (blocks : List BlockValue) (items : List Item) (n : ℕ) (list : List Found) (item : Item) → items ≡ items_of design 0 → AreRight design (Ok tt) → IsWalked design blocks items n list → Some item ≡ slice_get items n → is_instance item ≡ true → (model : ℕ) × (model_named design (model_in item) ≡ Some model)

@@ -7,7 +7,7 @@ use net_words::BindFault;
 use thiserror::Error;
 
 /// Why a block has no circuit.
-#[derive(Clone, Copy, Debug, PartialEq, Eq, Error)]
+#[derive(Clone, Copy, Debug, Error)]
 pub enum BlockFault {
     /// Its model, flattened alone, is no net.
     #[error("the block is no net")]
@@ -38,13 +38,7 @@ pub(crate) fn bind_refusal(fault: BindFault) -> BlockFault
     ensures { result ≡ bind_refusal_of fault }
 {
     match fault {
-        BindFault::NoSuchNet { .. } => BlockFault::NotBound,
-        BindFault::NotInput { .. } => BlockFault::NotBound,
-        BindFault::NotLatch { .. } => BlockFault::NotBound,
-        BindFault::NetTwice { .. } => BlockFault::NotBound,
-        BindFault::FeedNotFree { .. } => BlockFault::NotBound,
-        BindFault::Uncovered { .. } => BlockFault::NotBound,
-        BindFault::UnknownStart { .. } => BlockFault::NotBound,
         BindFault::OutOfMemory => BlockFault::OutOfMemory,
+        _ => BlockFault::NotBound,
     }
 }

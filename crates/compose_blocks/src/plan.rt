@@ -67,6 +67,8 @@ pub fn plan_blocks(
         Ok(circuits) => circuits,
         Err(fault) => return Err(fault),
     };
-    let numbers = numbers_in(alloc, &list)?;
+    let Ok(numbers) = numbers_in(alloc, &list) else {
+        return Err(PlanFault::OutOfMemory);
+    };
     Ok(BlockPlan { numbers, circuits })
 }

@@ -1,9 +1,5 @@
 //! Faults of tops of instances.
-ghost use Rattle.std.specs.Prelude.{◌≡◌};
-ghost use Rattle.compose_blocks.specs.declared.plan_fault.PlanFault.TheVariants.{OutOfMemory};
-
 use net_core::Name;
-use std::alloc::{AllocError, AllocFailed};
 use thiserror::Error;
 
 /// Why a top can't be taken as instances of blocks.
@@ -30,20 +26,4 @@ pub enum PlanFault {
     /// Out of memory.
     #[error("out of memory")]
     OutOfMemory,
-}
-
-impl From<AllocError> for PlanFault {
-    ghost from_gives = { λ _ e. e ≡ OutOfMemory };
-
-    fn from(_error: AllocError) -> PlanFault {
-        PlanFault::OutOfMemory
-    }
-}
-
-impl<T: Drop> From<AllocFailed<T>> for PlanFault {
-    ghost from_gives = { λ _ e. e ≡ OutOfMemory };
-
-    fn from(_error: AllocFailed<T>) -> PlanFault {
-        PlanFault::OutOfMemory
-    }
 }

@@ -21,7 +21,7 @@ fn is_fed(word: &WordText) -> bool
 fn has_fed_word(words: &[WordText]) -> bool
     ensures { result ≡ list_any is_fed_word words.now }
 {
-    words.iter().any(|word| is_fed(word))
+    words.iter().any(is_fed)
 }
 
 // Whether a line feeds a net.

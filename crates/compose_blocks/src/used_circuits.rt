@@ -113,7 +113,10 @@ pub(crate) fn circuits_of(
     ensures all { IfOk result (λ circuits. (i : ℕ) (found : FoundValue) → slice_get list.now i ≡ Some found → HasCircuit circuits.items found.block) }
     ensures fault { IfErr result (MayFault (ForEach (UseOf design.now blocks.now) (instances_of design.now))) }
 {
-    let mut circuits = no_circuits(alloc, blocks.len())?;
+    let Ok(none) = no_circuits(alloc, blocks.len()) else {
+        return Err(PlanFault::OutOfMemory);
+    };
+    let mut circuits = none;
     for i in 0..list.len() {
         match add_circuit(alloc, design, blocks, list[i], &mut circuits) {
             Ok(()) => {}

@@ -41,7 +41,9 @@ fn one_found(
 {
     let name = model_in(item);
     let Some(block) = number_of(numbers, name) else {
-        let model = Name::new(alloc, name)?;
+        let Ok(model) = Name::new(alloc, name) else {
+            return Err(PlanFault::OutOfMemory);
+        };
         return Err(PlanFault::NoBlock { model });
     };
     match design.model(name) {
@@ -70,9 +72,36 @@ fn add_found(
             Ok(found) => found,
             Err(fault) => return Err(fault),
         };
-        list.push(found)?;
+        let Ok(()) = list.push(found) else {
+            return Err(PlanFault::OutOfMemory);
+        };
     }
     Ok(())
+}
+
+// What is found of the instances of a top by the numbers of the blocks.
+fn found_by(
+    alloc: Global,
+    design: &Design,
+    numbers: &Numbers,
+    blocks: &[Block],
+) -> Result<Vec<Found>, PlanFault>
+    requires { (name : List ℕ) → get_by_text numbers.now name ≡ block_from 0 blocks.now name }
+    ensures found { IfOk result (λ list. AreFound design.now blocks.now (instances_of design.now) list.items) }
+    ensures right { OnOk result (AreRight design.now (Ok tt)) }
+    ensures few { OnOk result (length (instances_of design.now) < 2 ^ 32) }
+    ensures fault { IfErr result (MayFault (ForEach (NumberOf blocks.now) (instances_of design.now))) }
+{
+    let items = design.top_items();
+    let mut list = Vec::new(alloc);
+    for place in 0..items.len() {
+        let item = items.get(place);
+        match add_found(alloc, design, numbers, blocks, &item, &mut list) {
+            Ok(()) => {}
+            Err(fault) => return Err(fault),
+        }
+    }
+    Ok(list)
 }
 
 /// The blocks and the models of the instances of a top, or the first model that has no block. What the design keeps comes
@@ -88,15 +117,8 @@ pub(crate) fn found_in(
     ensures few { OnOk result (length (instances_of design.now) < 2 ^ 32) }
     ensures fault { IfErr result (MayFault (ForEach (NumberOf blocks.now) (instances_of design.now))) }
 {
-    let numbers = numbers_of(alloc, design.key(), blocks)?;
-    let items = design.top_items();
-    let mut list = Vec::new(alloc);
-    for place in 0..items.len() {
-        let item = items.get(place);
-        match add_found(alloc, design, &numbers, blocks, &item, &mut list) {
-            Ok(()) => {}
-            Err(fault) => return Err(fault),
-        }
-    }
-    Ok(list)
+    let Ok(numbers) = numbers_of(alloc, design.key(), blocks) else {
+        return Err(PlanFault::OutOfMemory);
+    };
+    found_by(alloc, design, &numbers, blocks)
 }

@@ -25,7 +25,7 @@ returns-clause-planned c =
     let P : List BlockValue → Type 0 = λ blocks. AreFound c.args.design.now blocks (instances_of c.args.design.now) list in
     let Q : List BlockValue → Type 0 = λ blocks. AreCircuits c.args.design.now blocks c.in-Ok-circuits_of.circuits.items in
     let R : List Found → Type 0 = λ fs. (i : ℕ) (found : Found) → slice_get fs i ≡ Some found → HasCircuit c.in-Ok-circuits_of.circuits.items found.block in
-    planned c.args.design.now c.args.signature.now list c.in-Ok-circuits_of.circuits.items c.in_ok-numbers.numbers.items c.in-Ok.ensures.unfed c.in-Ok-check_gates.ensures.alone (subst P c.blocks-blocks.ensures c.in-Ok-found_in.ensures.found) (subst Q c.blocks-blocks.ensures c.in-Ok-circuits_of.ensures.circuits) (subst R c.deref.ensures.value c.in-Ok-circuits_of.ensures.all) (c.in_ok-numbers.ensures ∙ ap (λ (fs : List Found). map (λ (f : Found). f.block) fs) c.deref-2.ensures.value)
+    planned c.args.design.now c.args.signature.now list c.in-Ok-circuits_of.circuits.items c.in-Ok-numbers_in.numbers.items c.in-Ok.ensures.unfed c.in-Ok-check_gates.ensures.alone (subst P c.blocks-blocks.ensures c.in-Ok-found_in.ensures.found) (subst Q c.blocks-blocks.ensures c.in-Ok-circuits_of.ensures.circuits) (subst R c.deref.ensures.value c.in-Ok-circuits_of.ensures.all) (c.in-Ok-numbers_in.ensures ∙ ap (λ (fs : List Found). map (λ (f : Found). f.block) fs) c.deref-2.ensures.value)
 
 pub returns-clause-right : goal.returns-clause-right
 returns-clause-right c = c.in-Ok-found_in.ensures.right

@@ -8,6 +8,21 @@ use Rattle.compose_blocks.proofs.CircuitLemmas.{circuit_more, keeps_more}
 use Rattle.compose_blocks.proofs.ListLemmas.{none_at, some_read}
 use Rattle.compose_blocks.proofs.used_circuits.add_circuit.Goals as goal
 
+pub index-requires : goal.index-requires
+index-requires c = omega (arith, c.requires.kept.long, c.requires.block)
+
+pub bounds-blocks-number : goal.bounds-blocks-number
+bounds-blocks-number c = c.requires.block
+
+pub put_circuit-requires : goal.put_circuit-requires
+put_circuit-requires c = omega (arith, c.requires.kept.long, c.requires.block)
+
+pub returns-then-is_some-clause-kept : goal.returns-then-is_some-clause-kept
+returns-then-is_some-clause-kept c = c.requires.kept
+
+pub returns-then-is_some-clause-keeps : goal.returns-then-is_some-clause-keeps
+returns-then-is_some-clause-keeps c = λ number circuit got. got
+
 pub circuit_of-requires : goal.circuit_of-requires
 circuit_of-requires c =
     let block : BlockValue = c.index-blocks-number.result in

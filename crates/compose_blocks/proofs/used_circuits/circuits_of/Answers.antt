@@ -21,8 +21,8 @@ returns-in-Err-clause-fault c =
 pub loop-i-preserved : goal.loop-i-preserved
 loop-i-preserved c =
     record {
-      are = c.in-Ok.ensures.kept;
-      done = done_more c.args.list.now c.loop-i.i (get_or c.args.list.now c.loop-i.i none) c.loop-i.circuits.items c.add_circuit.new.circuits.items (slice_get-get_or c.args.list.now c.loop-i.i none c.loop-i-test.true) c.in-Ok.ensures.keeps c.loop-i.invariant.done c.in-Ok.ensures.has;
+      are = c.in-Ok-add_circuit.ensures.kept;
+      done = done_more c.args.list.now c.loop-i.i (get_or c.args.list.now c.loop-i.i none) c.loop-i.circuits.items c.add_circuit.new.circuits.items (slice_get-get_or c.args.list.now c.loop-i.i none c.loop-i-test.true) c.in-Ok-add_circuit.ensures.keeps c.loop-i.invariant.done c.in-Ok-add_circuit.ensures.has;
     }
 
 pub returns-clause-all : goal.returns-clause-all

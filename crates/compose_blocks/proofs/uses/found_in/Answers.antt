@@ -1,27 +1,13 @@
-use Rattle.std.proofs.Common.{subst, List}
-use Rattle.std.specs.Prelude.{filter}
-use Rattle.outcome.specs.ForEach.{ForEach}
-use Rattle.net_blif.specs.Top.{is_instance}
-use Rattle.net_blif.specs.declared.item.Item.{Item}
-use Rattle.compose_blocks.specs.Planned.{MayFault}
-use Rattle.compose_blocks.specs.Structure.{NumberOf}
-use Rattle.compose_blocks.proofs.FoundLemmas.{has_model, number_refused, walked_more}
 use Rattle.compose_blocks.proofs.uses.found_in.Goals as goal
 
-pub add_found-requires-clause-model : goal.add_found-requires-clause-model
-add_found-requires-clause-model c = λ is. has_model c.args.design.now c.args.blocks.now c.top_items-items.result.now c.loop-place.place c.loop-place.list.items c.get-item.result c.top_items-items.ensures.items c.top_items-items.ensures.right c.loop-place.invariant c.get-item.ensures.item is
-
-pub returns-in-Err-clause-fault : goal.returns-in-Err-clause-fault
-returns-in-Err-clause-fault c =
-    let P : List Item → Type 0 = λ items. MayFault (ForEach (NumberOf c.args.blocks.now) (filter is_instance items)) c.in-Err.fault in
-    let refused = c.in-Err.ensures.fault in
-    subst P c.top_items-items.ensures.items (number_refused c.args.design.now c.args.blocks.now c.top_items-items.result.now c.loop-place.place c.loop-place.list.items c.loop-place.invariant c.get-item.result c.get-item.ensures.item refused.0 c.in-Err.fault refused.1)
-
-pub loop-place-preserved : goal.loop-place-preserved
-loop-place-preserved c = walked_more c.args.design.now c.args.blocks.now c.top_items-items.result.now c.loop-place.place c.loop-place.list.items c.loop-place.invariant c.get-item.result c.get-item.ensures.item c.add_found.new.list.items c.in-Ok.ensures.added
+pub returns-clause-found : goal.returns-clause-found
+returns-clause-found c = c.found_by.ensures.found
 
 pub returns-clause-right : goal.returns-clause-right
-returns-clause-right c = c.top_items-items.ensures.right
+returns-clause-right c = c.found_by.ensures.right
 
 pub returns-clause-few : goal.returns-clause-few
-returns-clause-few c = c.top_items-items.ensures.few
+returns-clause-few c = c.found_by.ensures.few
+
+pub returns-clause-fault : goal.returns-clause-fault
+returns-clause-fault c = c.found_by.ensures.fault

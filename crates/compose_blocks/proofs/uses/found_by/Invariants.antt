@@ -1,4 +1,4 @@
-use Rattle.compose_blocks.proofs.uses.found_in.Given as goal
+use Rattle.compose_blocks.proofs.uses.found_by.Given as goal
 use Rattle.compose_blocks.proofs.Walked.{IsWalked}
 
 -- the lines so far are walked
