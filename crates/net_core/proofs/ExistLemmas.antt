@@ -16,11 +16,11 @@ use Rattle.net_core.specs.Inside.{IsInside}
 use Rattle.net_core.specs.Sound.{IsSound, HasOneDriverEach, HasCycle, Needs, sources}
 use Rattle.net_core.specs.Level.{Levels, level_at, level_over}
 use Rattle.net_core.specs.Levelled.{AllHaveLevels}
-use Rattle.net_core.specs.Partial.{ArePartial, AreKnown, lacking}
+use Rattle.net_core.specs.Partial.{ArePartial, AreKnown, AreZeros, lacking}
 use Rattle.net_core.specs.Value.{bit_of, index_of, IsRight, IsConsistent, HasSourceBits}
 use Rattle.net_core.proofs.NetPath.{IsPath}
 use Rattle.net_core.proofs.DriverLemmas.{driver_of, gates_apart, gate_inside, source_no_gate}
-use Rattle.net_core.proofs.LevelLemmas.{level_within, known_at, known_over, level_set_same, level_set_other, level_from_above, partial_set, lacking_set, all_found, right_level, first_partial, sources_inside}
+use Rattle.net_core.proofs.LevelLemmas.{level_within, known_at, known_over, level_set_other, level_from_above, partial_set, lacking_set, all_found, right_level, no_zeros, one_zero_more, first_partial, sources_inside}
 use Rattle.net_core.proofs.EvalLemmas.{bit_set_same, bit_set_other, index_set, index_agree, same_lists, some_level, value_of}
 
 abbrev pub unmet : Bool → ℕ
@@ -207,61 +207,25 @@ grow net start sound (suc fuel) levels done bits few begun =
           grow net start sound fuel (set levels g.0.out (Some v.0)) (done + 1) (set bits g.0.out (value_of bits g.0)) (omega (arith, lacking_set levels g.0.out v.0 (known_at levels g.0.out None within g.2))) (begun_more net start levels done bits g.0 v.0 sound.inside sound.one begun g.1 g.2 g.3 v.1)
     ]
 
--- level 0 for the sources, and none for other nets
-zeros_of : List ℕ → ℕ → Levels
-zeros_of [] n = replicate n None
-zeros_of (s ∷ ss) n = set (zeros_of ss n) s (Some 0)
-
-no_level : (n k : ℕ) → level_at (replicate n None) k ≡ None
-no_level zero k = refl
-no_level (suc n) zero = refl
-no_level (suc n) (suc k) = no_level n k
-
-zeros_long : (ss : List ℕ) (n : ℕ) → length (zeros_of ss n) ≡ n
-unfolding zeros_of
-zeros_long [] n = length-replicate {A = Option ℕ} n None
-zeros_long (s ∷ ss) n = length-set (zeros_of ss n) s (Some 0) ∙ zeros_long ss n
-
-zeros_each : (ss : List ℕ) (n k : ℕ) → ((i s : ℕ) → slice_get ss i ≡ Some s → s < n) → Has ss k → level_at (zeros_of ss n) k ≡ Some 0
-unfolding zeros_of
-zeros_each [] n k below has = let got = has.1 in absurd (cc)
-zeros_each (s ∷ ss) n k below (i, got) =
-    elim (nat_eq_or k s) [
-      | inl same ↦
-          let within : s < length (zeros_of ss n) = omega (arith, below 0 s refl, zeros_long ss n) in
-          ap (level_at (set (zeros_of ss n) s (Some 0))) same ∙ level_set_same (zeros_of ss n) s (Some 0) within
-      | inr other ↦ level_set_other (zeros_of ss n) s (Some 0) k other ∙ zeros_each ss n k (λ j t at. below (suc j) t at) (rest_has ss s k i got other)
-    ]
-  where
-    rest_has : (ss : List ℕ) (s k i : ℕ) → slice_get (s ∷ ss) i ≡ Some k → k ≢ s → Has ss k
-    rest_has ss s k zero got other = let same : s ≡ k = cc in absurd (other (sym same))
-    rest_has ss s k (suc i) got other = (i, got)
-
-zeros_only : (ss : List ℕ) (n k l : ℕ) → ((i s : ℕ) → slice_get ss i ≡ Some s → s < n) → level_at (zeros_of ss n) k ≡ Some l → (l ≡ 0) × Has ss k
-unfolding zeros_of
-zeros_only [] n k l below is = let none = no_level n k in absurd (cc)
-zeros_only (s ∷ ss) n k l below is =
-    elim (nat_eq_or k s) [
-      | inl same ↦
-          let within : s < length (zeros_of ss n) = omega (arith, below 0 s refl, zeros_long ss n) in
-          let is' : level_at (set (zeros_of ss n) s (Some 0)) s ≡ Some l = ap (level_at (set (zeros_of ss n) s (Some 0))) (sym same) ∙ is in
-          let value : Some 0 ≡ Some l = sym (level_set_same (zeros_of ss n) s (Some 0) within) ∙ is' in
-          let e : 0 ≡ l = cc in
-          (sym e, (0, ap Some (sym same)))
-      | inr other ↦
-          let rest = zeros_only ss n k l (λ j t at. below (suc j) t at) (sym (level_set_other (zeros_of ss n) s (Some 0) k other) ∙ is) in
-          (rest.0, (suc rest.1.0, rest.1.1))
-    ]
+-- there are levels in which the first k sources have level 0, and no net but a source has a level
+zeros_of : (ss : List ℕ) (bound : ℕ) → ((i s : ℕ) → slice_get ss i ≡ Some s → s < bound) → (k : ℕ) → k ≤ length ss → (levels : Levels) × AreZeros bound ss k levels
+zeros_of ss bound below zero few = (replicate bound None, no_zeros bound ss (replicate bound None) refl)
+zeros_of ss bound below (suc k) few =
+    let rest = zeros_of ss bound below k (omega arith) in
+    let at = get_below ss k (omega arith) in
+    let P : ℕ → Type 0 = λ i. AreZeros bound ss i (set rest.0 at.0 (Some 0)) in
+    let next : k + 1 ≡ suc k = omega arith in
+    (set rest.0 at.0 (Some 0), subst P next (one_zero_more bound ss k at.0 rest.0 (below k at.0 at.1) at.1 rest.1))
 
 -- a sound net list has levels, and a consistent list of bits with these bits at its sources
 pub sound_whole : (net : NetList) (start : List Bool) → IsSound net → length start ≡ nets net → (levels : Levels) × (bits : List Bool) × AllHaveLevels net levels × IsConsistent net bits × HasSourceBits net start bits
 sound_whole net start sound long =
     let below : (i s : ℕ) → slice_get (sources net) i ≡ Some s → s < nets net = λ i s got. All_has (λ n. n < nets net) (sources net) s (sources_inside net sound.inside) (i, got) in
-    let zeros : Levels = zeros_of (sources net) (nets net) in
-    let first : ArePartial net zeros 0 = first_partial net zeros sound.inside sound.one (zeros_long (sources net) (nets net)) (λ n has. zeros_each (sources net) (nets net) n below has) (λ n l is. zeros_only (sources net) (nets net) n l below is) in
-    grow net start sound (lacking zeros) zeros 0 start (omega arith) (record {
+    let zeros = zeros_of (sources net) (nets net) below (length (sources net)) (omega arith) in
+    let first : ArePartial net zeros.0 0 = first_partial net zeros.0 (sources net) (nets net) sound.inside sound.one refl refl zeros.1 in
+    grow net start sound (lacking zeros.0) zeros.0 0 start (omega arith) (record {
       partial = first;
-      right = λ g l has is. absurd (no_source net g zeros sound has (zeros_only (sources net) (nets net) g.out l below is).1);
+      right = λ g l has is. absurd (no_source net g zeros.0 sound has (zeros.1.only g.out l is).1);
       long = long;
       same = λ n source. refl;
     })

@@ -1,9 +1,10 @@
 -- Steps of levels.
-use Rattle.std.proofs.Common.{◌≡◌, ◌≢◌, ◌∙◌, ap, sym, refl, inl, inr, subst, ℕ, zero, suc, ◌<◌, ◌≤◌, ◌+◌, max, List, [], ◌∷◌, length, get_or, Option, None, Some, arith, length-set}
+use Rattle.std.proofs.Common.{◌≡◌, ◌≢◌, ◌∙◌, ap, sym, refl, inl, inr, subst, ℕ, zero, suc, ◌<◌, ◌≤◌, ◌+◌, max, List, [], ◌∷◌, length, replicate, get_or, Option, None, Some, arith, length-set}
 use Rattle.std.specs.Prelude.{slice_get, unwrap_or, option_and_then, All, map}
 use Rattle.std.proofs.lemmas.List.Sums.{sum_by-cons}
 use Rattle.std.proofs.lemmas.List.Elements.{All-append, All-map, All-weaker}
 use Rattle.std.proofs.Math.ListN.{set}
+use Rattle.std.proofs.lemmas.List.{length-replicate}
 use Rattle.std.proofs.lemmas.Option.{slice_get_within, get_or_from_slice_get}
 use Rattle.lists.specs.Lists.{Has}
 use Rattle.lists.specs.laws.HasLaws.{Has_left, Has_map}
@@ -15,11 +16,11 @@ use Rattle.graph_core.specs.Arranged.{IsArranged}
 use Rattle.net_core.specs.GateValue.{GateValue}
 use Rattle.net_core.specs.NetList.{NetList, nets}
 use Rattle.net_core.specs.Inside.{IsInside, GateIsInside, LatchIsInside}
-use Rattle.net_core.specs.Sound.{sources, driven, HasOneDriverEach}
+use Rattle.net_core.specs.Sound.{sources, HasOneDriverEach}
 use Rattle.net_core.specs.Level.{Levels, level_at, level_from, level_over, AreLevels}
 use Rattle.net_core.specs.Levelled.{AllHaveLevels}
 use Rattle.net_core.specs.Driving.{IsGraphOf, roots_of}
-use Rattle.net_core.specs.Partial.{ArePartial, ArePositions, AreKnown, KeepsLevels, lack, lacking}
+use Rattle.net_core.specs.Partial.{ArePartial, ArePositions, AreKnown, AreZeros, KeepsLevels, lack, lacking}
 use Rattle.net_core.proofs.DriverLemmas.{driver_of, source_no_gate, gates_apart, gate_inside}
 
 pub level_known : (levels : Levels) (n l : ℕ) → level_at levels n ≡ Some l → slice_get levels n ≡ Some (Some l)
@@ -118,14 +119,56 @@ right_level net levels done p g partial got some =
       | Some l ↦ λ e. sym (partial.gates p g l got e)
     ] refl
 
--- levels of the sources alone
-pub first_partial : (net : NetList) (levels : Levels) → IsInside net → HasOneDriverEach net → length levels ≡ nets net → ((n : ℕ) → Has (sources net) n → level_at levels n ≡ Some 0) → ((n l : ℕ) → level_at levels n ≡ Some l → (l ≡ 0) × Has (sources net) n) → ArePartial net levels 0
-first_partial net levels inside one long each only =
+no_level : (n k : ℕ) → level_at (replicate n None) k ≡ None
+no_level zero k = refl
+no_level (suc n) zero = refl
+no_level (suc n) (suc k) = no_level n k
+
+-- no source has its level
+pub no_zeros : (bound : ℕ) (sources : List ℕ) (levels : Levels) → levels ≡ replicate bound None → AreZeros bound sources 0 levels
+no_zeros bound sources levels is =
     record {
-      long = long;
-      sources = each;
-      gates = λ p g l got is. absurd (source_no_gate net g.out g inside one (only g.out l is).1 (p, got) refl);
-      small = λ n l is. omega (arith, (only n l is).0);
+      long = ap length is ∙ length-replicate {A = Option ℕ} bound None;
+      each = λ j n less got. absurd (omega arith);
+      only = λ n l some. let none : level_at levels n ≡ None = ap (λ ls. level_at ls n) is ∙ no_level bound n in absurd (cc);
+    }
+
+-- one more source gets it
+pub one_zero_more : (bound : ℕ) (sources : List ℕ) (k n : ℕ) (levels : Levels) → n < bound → slice_get sources k ≡ Some n → AreZeros bound sources k levels → AreZeros bound sources (k + 1) (set levels n (Some 0))
+one_zero_more bound sources k n levels less here zeros =
+    let within : n < length levels = omega (arith, zeros.long) in
+    record {
+      long = length-set levels n (Some 0) ∙ zeros.long;
+      each = λ j m below got. elim (nat_eq_or m n) [
+        | inl same ↦ ap (level_at (set levels n (Some 0))) same ∙ level_set_same levels n (Some 0) within
+        | inr other ↦
+            let place : j ≢ k = λ e. let got' : slice_get sources k ≡ Some m = ap (slice_get sources) (sym e) ∙ got in let same : n ≡ m = cc in other (sym same) in
+            level_set_other levels n (Some 0) m other ∙ zeros.each j m (omega arith) got
+      ];
+      only = λ m l some. elim (nat_eq_or m n) [
+        | inl same ↦
+            let at : level_at (set levels n (Some 0)) n ≡ Some l = ap (level_at (set levels n (Some 0))) (sym same) ∙ some in
+            let value : Some 0 ≡ Some l = sym (level_set_same levels n (Some 0) within) ∙ at in
+            let level : 0 ≡ l = cc in
+            (sym level, (k, here ∙ ap Some (sym same)))
+        | inr other ↦ zeros.only m l (sym (level_set_other levels n (Some 0) m other) ∙ some)
+      ];
+    }
+
+-- all sources have it
+pub zeros_all : (bound : ℕ) (sources : List ℕ) (k : ℕ) (levels : Levels) → length sources ≤ k → AreZeros bound sources k levels → AreZeros bound sources (length sources) levels
+zeros_all bound sources k levels past zeros = record { long = zeros.long; each = λ j n less got. zeros.each j n (omega arith) got; only = zeros.only }
+
+-- levels of the sources alone
+pub first_partial : (net : NetList) (levels : Levels) (ss : List ℕ) (bound : ℕ) → IsInside net → HasOneDriverEach net → bound ≡ nets net → ss ≡ sources net → AreZeros bound ss (length ss) levels → ArePartial net levels 0
+first_partial net levels ss bound inside one count same zeros =
+    let P : List ℕ → Type 0 = λ list. AreZeros bound list (length list) levels in
+    let zeros' : P (sources net) = subst P same zeros in
+    record {
+      long = zeros'.long ∙ count;
+      sources = λ n has. zeros'.each has.0 n (slice_get_within (sources net) has.0 n has.1) has.1;
+      gates = λ p g l got is. absurd (source_no_gate net g.out g inside one (zeros'.only g.out l is).1 (p, got) refl);
+      small = λ n l is. omega (arith, (zeros'.only n l is).0);
       few = lacking_few levels;
     }
   where
@@ -137,8 +180,11 @@ first_partial net levels inside one long each only =
 pub sources_inside : (net : NetList) → IsInside net → All (λ n. n < nets net) (sources net)
 sources_inside net inside = All-append (λ n. n < nets net) net.inputs (map (λ l. l.out) net.latches) inside.inputs (All-map (λ n. n < nets net) (λ l. l.out) net.latches (All-weaker (LatchIsInside (nets net)) (λ l. l.out < nets net) (λ l h. h.1) net.latches inside.latches))
 
-pub driven_inside : (net : NetList) → IsInside net → All (λ n. n < nets net) (driven net)
-driven_inside net inside = All-append (λ n. n < nets net) (sources net) (map (λ g. g.out) net.gates) (sources_inside net inside) (All-map (λ n. n < nets net) (λ g. g.out) net.gates (All-weaker (GateIsInside (nets net)) (λ g. g.out < nets net) (λ g h. h.0) net.gates inside.gates))
+-- the roots are nets
+pub roots_inside : (net : NetList) → IsInside net → All (λ n. n < nets net) (roots_of net)
+roots_inside net inside =
+    let outs : All (λ n. n < nets net) (map (λ (g : GateValue). g.out) net.gates) = All-map (λ n. n < nets net) (λ (g : GateValue). g.out) net.gates (All-weaker (GateIsInside (nets net)) (λ g. g.out < nets net) (λ g h. h.0) net.gates inside.gates) in
+    All-append (λ n. n < nets net) (map (λ (g : GateValue). g.out) net.gates) (sources net) outs (sources_inside net inside)
 
 pub raised_set : (net : NetList) (levels : Levels) (p v : ℕ) (g : GateValue) (out : ℕ) → slice_get net.gates p ≡ Some g → level_over levels g.inputs ≡ Some v → out ≡ g.out → (h : GateValue) (l : ℕ) → slice_get net.gates p ≡ Some h → level_over levels h.inputs ≡ Some l → set levels out (Some v) ≡ set levels h.out (Some l)
 raised_set net levels p v g out gate over is h l gate' over' =

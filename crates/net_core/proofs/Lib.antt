@@ -2,10 +2,12 @@ pub mod SharedLemmas
 pub mod NetPath
 pub mod RightGates
 pub mod DriverLemmas
+pub mod CountLemmas
 pub mod DrivingLemmas
 pub mod EvalLemmas
 pub mod ExistLemmas
 pub mod LawLemmas
+pub mod InsideLemmas
 pub mod LevelLemmas
 pub mod LoopLemmas
 pub mod NameLemmas

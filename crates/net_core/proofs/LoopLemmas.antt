@@ -1,8 +1,7 @@
 -- Levels, grounded nets and loops.
 use Rattle.std.proofs.Common.{◌≡◌, ◌⊎◌, ◌∙◌, ap, sym, refl, inl, inr, subst, ℕ, zero, suc, ◌<◌, List, [], ◌∷◌, ◌++◌, length, map, Option, None, Some, arith}
-use Rattle.std.specs.Prelude.{slice_get, All}
+use Rattle.std.specs.Prelude.{slice_get}
 use Rattle.std.proofs.lemmas.Option.{slice_get-map}
-use Rattle.std.proofs.lemmas.List.Elements.{All-append, All-map, All-weaker}
 use Rattle.lists.specs.Lists.{Has}
 use Rattle.lists.specs.laws.HasLaws.{All_has}
 use Rattle.lists.specs.laws.NumberLaws.{even, nat_eq_or}
@@ -14,7 +13,7 @@ use Rattle.graph_core.specs.declared.fault.CycleFault.{CycleFault}
 use Rattle.graph_core.specs.declared.fault.CycleFault.TheVariants.{Cycle, OutOfMemory}
 use Rattle.net_core.specs.GateValue.{GateValue}
 use Rattle.net_core.specs.NetList.{NetList, nets}
-use Rattle.net_core.specs.Inside.{IsInside, GateIsInside}
+use Rattle.net_core.specs.Inside.{IsInside}
 use Rattle.net_core.specs.Sound.{IsSound, HasOneDriverEach, Needs, IsCycle, HasCycle, sources}
 use Rattle.net_core.specs.Level.{Levels, level_at, level_over, AreLevels}
 use Rattle.net_core.specs.Levelled.{AllHaveLevels}
@@ -24,7 +23,7 @@ use Rattle.net_core.proofs.NetPath.{IsPath}
 use Rattle.graph_core.proofs.GraphLemmas.{edges_within}
 use Rattle.graph_core.proofs.LoopLemmas.{loop_cycle, loop_weaker, loop_only, cycle_weaker}
 use Rattle.net_core.proofs.DriverLemmas.{DriveNets, driver_of, drivers_apart, drives_inside, gate_inside}
-use Rattle.net_core.proofs.LevelLemmas.{level_from_above, sources_inside}
+use Rattle.net_core.proofs.LevelLemmas.{level_from_above}
 
 -- a net that a path of gates cannot follow for ever has a level
 pub grounded_level : (net : NetList) (graph : Graph) → HasOneDriverEach net → IsInside net → IsGraphOf net graph → (a : ℕ) → a < nets net → IsGrounded graph a → HasLevel net a
@@ -184,11 +183,6 @@ no_cycle net levels are each cycle = no_cycle_of net levels are each cycle.0 cyc
 pub loop_fault_of : (net : NetList) (graph : Graph) (fault : CycleFault) → HasOneDriverEach net → IsInside net → IsGraphOf net graph → IsCycleFault graph (roots_of net) fault → IsLoopFault net fault
 loop_fault_of net graph (Cycle points) one inside is cycle = loop_of_cycle net graph points.items one inside is cycle
 loop_fault_of net graph OutOfMemory one inside is cycle = tt
-
-pub roots_inside : (net : NetList) (graph : Graph) → IsInside net → IsGraphOf net graph → All (λ n. n < length graph) (roots_of net)
-roots_inside net graph inside is =
-    let outs : All (λ n. n < nets net) (map (λ (g : GateValue). g.out) net.gates) = All-map (λ n. n < nets net) (λ (g : GateValue). g.out) net.gates (All-weaker (GateIsInside (nets net)) (λ g. g.out < nets net) (λ g h. h.0) net.gates inside.gates) in
-    rw is.long (All-append (λ n. n < nets net) (map (λ (g : GateValue). g.out) net.gates) (sources net) outs (sources_inside net inside))
 
 pub sound_by_levels : (net : NetList) (levels : Levels) → IsInside net → HasOneDriverEach net → AllHaveLevels net levels → IsSound net
 sound_by_levels net levels inside one all = record { inside = inside; one = one; no_cycle = no_cycle net levels all.0 all.1 }

@@ -23,6 +23,9 @@ number_new n (x ∷ xs) label name none hit =
 pub fresh_after : (labels : List LabelValue) (label : LabelValue) (q : List ℕ) → label.named ≡ false → number_from 0 (labels ++ label ∷ []) q ≡ number_from 0 labels q
 fresh_after labels label q fresh = number_not 0 labels label q (rw fresh refl)
 
+pub one_longer : (labels new : List LabelValue) (label : LabelValue) → new ≡ labels ++ label ∷ [] → length new ≡ length labels + 1
+one_longer labels new label is = ap length is ∙ length_push labels label
+
 -- a name that is found stays so
 pub number_kept : (n : ℕ) (labels : List LabelValue) (label : LabelValue) (name : List ℕ) (k : ℕ) → number_from n labels name ≡ Some k → number_from n (labels ++ label ∷ []) name ≡ Some k
 number_kept n [] label name k found = absurd (cc)

@@ -1,5 +1,5 @@
 -- Sorted keys give the order.
-use Rattle.std.proofs.Common.{◌≡◌, ◌≢◌, ◌∙◌, ap, sym, refl, inl, inr, subst, ℕ, zero, suc, ◌<◌, ◌≤◌, ◌+◌, false, cond, List, [], ◌∷◌, length, get_or, Some, map, arith}
+use Rattle.std.proofs.Common.{◌≡◌, ◌≢◌, ◌∙◌, ap, sym, refl, inl, inr, subst, ℕ, zero, suc, ◌<◌, ◌≤◌, ◌+◌, false, cond, List, [], ◌∷◌, ◌++◌, length, get_or, Some, map, arith}
 use Rattle.std.specs.Prelude.{slice_get, sum_by, All, Contains, ◌==◌}
 use Rattle.std.specs.Ordering.{ordering_then, is_lt, nat_cmp}
 use Rattle.std.specs.List.Sorted.{IsPermutation, IsSorted}
@@ -11,7 +11,8 @@ use Rattle.std.proofs.lemmas.Option.{slice_get_within, get_or_from_slice_get}
 use Rattle.lists.specs.Lists.{times}
 use Rattle.lists.specs.laws.HasLaws.{times_two, times_some, Has_map, All_has}
 use Rattle.lists.specs.laws.NumberLaws.{nat_eq_or}
-use Rattle.lists.specs.laws.ReadLaws.{get_below, got_at, from_map}
+use Rattle.lists.specs.laws.ListLaws.{length-push}
+use Rattle.lists.specs.laws.ReadLaws.{get_below, get_front, get_here, got_at, from_map}
 use Rattle.lists.specs.laws.TestLaws.{one_here, none_here}
 use Rattle.net_core.specs.GateValue.{GateValue}
 use Rattle.net_core.specs.NetList.{NetList}
@@ -44,6 +45,34 @@ times_one n (x ∷ xs) apart =
 
     none_after : x ≡ n → times n (x ∷ xs) ≤ 1
     none_after same = omega (arith, one_here n x same, few (times n xs) (more n x xs same apart))
+
+-- the first k gates have their keys
+pub record HasKeys (net : NetList) (levels : Levels) (k : ℕ) (keys : List (ℕ × ℕ)) : Type 0 where
+  pub long : length keys ≡ k
+  pub each : (p : ℕ) (g : GateValue) → p < k → slice_get net.gates p ≡ Some g → slice_get keys p ≡ Some (rank_at levels g.out, p)
+
+pub no_keys : (net : NetList) (levels : Levels) (keys : List (ℕ × ℕ)) → keys ≡ [] → HasKeys net levels 0 keys
+no_keys net levels keys is = record { long = ap length is; each = λ p g less got. absurd (omega arith) }
+
+-- one more gate has its key
+pub one_key_more : (net : NetList) (levels : Levels) (k level : ℕ) (keys new : List (ℕ × ℕ)) (g : GateValue) → slice_get net.gates k ≡ Some g → level ≡ rank_at levels g.out → new ≡ keys ++ (level, k) ∷ [] → HasKeys net levels k keys → HasKeys net levels (k + 1) new
+one_key_more net levels k level keys new g here is made has =
+    let P : List (ℕ × ℕ) → Type 0 = HasKeys net levels (k + 1) in
+    let last : slice_get (keys ++ (level, k) ∷ []) k ≡ Some (level, k) = ap (slice_get (keys ++ (level, k) ∷ [])) (sym has.long) ∙ get_here keys (level, k) [] in
+    subst P (sym made) (record {
+      long = length-push keys (level, k) ∙ ap (λ (n : ℕ). n + 1) has.long;
+      each = λ p h less got. elim (nat_eq_or p k) [
+        | inl same ↦
+            let got' : slice_get net.gates k ≡ Some h = ap (slice_get net.gates) (sym same) ∙ got in
+            let whole : g ≡ h = cc in
+            let rank : level ≡ rank_at levels h.out = is ∙ ap (λ (x : GateValue). rank_at levels x.out) whole in
+            subst (λ (q : ℕ). slice_get (keys ++ (level, k) ∷ []) q ≡ Some (rank_at levels h.out, q)) (sym same) (subst (λ (r : ℕ). slice_get (keys ++ (level, k) ∷ []) k ≡ Some (r, k)) rank last)
+        | inr other ↦ get_front keys ((level, k) ∷ []) p (rank_at levels h.out, p) (has.each p h (omega arith) got)
+      ];
+    })
+
+pub keys_all : (net : NetList) (levels : Levels) (k : ℕ) (keys : List (ℕ × ℕ)) → k ≡ length net.gates → HasKeys net levels k keys → AreKeys net levels keys
+keys_all net levels k keys count has = record { long = has.long ∙ count; each = λ p g got. has.each p g (omega (arith, slice_get_within net.gates p g got, count)) got }
 
 -- what a key says
 abbrev IsKey : NetList → Levels → ℕ × ℕ → Type 0

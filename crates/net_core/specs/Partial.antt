@@ -1,5 +1,5 @@
 -- Levels that were found so far, for the clauses of private functions. Source: this project's own.
-use Rattle.std.specs.Prelude.{◌≡◌, ℕ, List, ◌≤◌, ◌+◌, Option, None, Some, slice_get, length, sum_by}
+use Rattle.std.specs.Prelude.{◌≡◌, ℕ, List, ◌<◌, ◌≤◌, ◌+◌, Option, None, Some, slice_get, length, sum_by}
 use Rattle.lists.specs.Lists.{Has}
 use Rattle.net_core.specs.GateValue.{GateValue}
 use Rattle.net_core.specs.NetList.{NetList, nets}
@@ -21,6 +21,12 @@ pub record ArePartial (net : NetList) (levels : Levels) (done : ℕ) : Type 0 wh
   pub gates : (p : ℕ) (g : GateValue) (l : ℕ) → slice_get net.gates p ≡ Some g → level_at levels g.out ≡ Some l → level_over levels g.inputs ≡ Some l
   pub small : (n l : ℕ) → level_at levels n ≡ Some l → l ≤ done
   pub few : done + lacking levels ≤ length levels
+
+-- the first k of the sources have level 0, and no net but a source has a level
+pub record AreZeros (bound : ℕ) (sources : List ℕ) (k : ℕ) (levels : Levels) : Type 0 where
+  pub long : length levels ≡ bound
+  pub each : (j n : ℕ) → j < k → slice_get sources j ≡ Some n → level_at levels n ≡ Some 0
+  pub only : (n l : ℕ) → level_at levels n ≡ Some l → (l ≡ 0) × Has sources n
 
 -- at the net of each gate the list has the gate's position
 abbrev pub ArePositions : NetList → List ℕ → Type 0

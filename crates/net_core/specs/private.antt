@@ -1,3 +1,4 @@
 -- Words that only clauses of private functions cite.
+pub mod Counts
 pub mod NameHash
 pub mod Placed

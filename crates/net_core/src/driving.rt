@@ -1,12 +1,12 @@
 //! The graph of a net list, in which each net leads to the inputs of its gate.
-ghost use Rattle.std.specs.Prelude.{◌≡◌, IfOk, IfErr};
+ghost use Rattle.std.specs.Prelude.{IfOk, IfErr};
 ghost use Rattle.graph_core.specs.Arranged.{IsArranged};
 ghost use Rattle.net_core.specs.Inside.{IsInside};
 ghost use Rattle.net_core.specs.Sound.{HasOneDriverEach};
 ghost use Rattle.net_core.specs.Driving.{IsGraphOf, IsLoopFault, roots_of};
 
 use crate::NetMaker;
-use crate::drivers::sources;
+use crate::drivers::roots;
 use graph_core::{CycleFault, Graph, arrange};
 use std::alloc::{AllocError, Global};
 
@@ -23,16 +23,6 @@ fn graph_of(alloc: Global, net: &NetMaker) -> Result<Graph, AllocError>
     Ok(graph)
 }
 
-// The outputs of the gates by position, and then the sources.
-fn roots(alloc: Global, net: &NetMaker) -> Result<Vec<u32>, AllocError>
-    ensures { IfOk result (λ v. v.items ≡ roots_of net.now) }
-{
-    let mut nets: Vec<u32> = net.gates().iter().map(|gate| gate.out()).collect(alloc)?;
-    let sources = sources(alloc, net)?;
-    nets.extend_from_slice(&sources)?;
-    Ok(nets)
-}
-
 // All nets, each after the inputs of its gate; or the cycle that a walk from the first gate on finds.
 pub fn nets_in_order(alloc: Global, net: &NetMaker) -> Result<Vec<u32>, CycleFault>
     requires { HasOneDriverEach net.now }
@@ -42,6 +32,5 @@ pub fn nets_in_order(alloc: Global, net: &NetMaker) -> Result<Vec<u32>, CycleFau
 {
     let graph = graph_of(alloc, net)?;
     let roots = roots(alloc, net)?;
-    let order = arrange(alloc, &graph, &roots)?;
-    Ok(order)
+    arrange(alloc, &graph, &roots)
 }

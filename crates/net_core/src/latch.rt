@@ -1,7 +1,7 @@
 //! Latches.
 
 /// What a latch holds in the first cycle.
-#[derive(Clone, Copy, Debug, PartialEq, Eq)]
+#[derive(Clone, Copy, PartialEq, Eq)]
 pub enum Start {
     /// The bit 0.
     Zero,
@@ -12,7 +12,7 @@ pub enum Start {
 }
 
 /// A latch: in each next cycle the net `out` has the bit that the net `next` had.
-#[derive(Clone, Copy, Debug, PartialEq, Eq)]
+#[derive(Clone, Copy, PartialEq, Eq)]
 pub struct Latch {
     /// The net that it reads.
     pub next: u32,

@@ -39,8 +39,7 @@ pub fn order_by(
 {
     let mut keys = keys(alloc, net, levels)?;
     keys.sort_unstable();
-    let order = seconds(alloc, &keys)?;
-    Ok(order)
+    seconds(alloc, &keys)
 }
 
 /// The positions of the gates by rising level and then by rising position.
@@ -49,6 +48,5 @@ pub fn order_by(
 pub fn order(alloc: Global, net: &Net) -> Result<Vec<u32>, AllocError>
     ensures { IfOk result (λ v. IsLevelOrder net.now v.items) }
 {
-    let order = order_by(alloc, net.made(), net.levels())?;
-    Ok(order)
+    order_by(alloc, net.made(), net.levels())
 }

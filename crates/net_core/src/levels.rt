@@ -8,10 +8,10 @@ ghost use Rattle.net_core.specs.Level.{level_at, level_over as level_of};
 ghost use Rattle.net_core.specs.Levelled.{AllHaveLevels};
 ghost use Rattle.net_core.specs.Driving.{IsGraphOf, roots_of};
 ghost use Rattle.graph_core.specs.Arranged.{IsArranged};
-ghost use Rattle.net_core.specs.Partial.{ArePartial, ArePositions, AreKnown, KeepsLevels};
+ghost use Rattle.net_core.specs.Partial.{ArePartial, ArePositions, AreKnown, AreZeros, KeepsLevels};
 
 use crate::NetMaker;
-use crate::drivers::sources;
+use crate::drivers::add_sources;
 use std::alloc::{AllocError, Global};
 
 // The level of a net, where it has one.
@@ -97,9 +97,7 @@ fn positions_by_net(alloc: Global, net: &NetMaker) -> Result<Vec<u32>, AllocErro
 // Level 0 for the sources, and none for other nets.
 fn zeros(alloc: Global, nets: usize, sources: &[u32]) -> Result<Vec<Option<u32>>, AllocError>
     requires { All (λ n. n < nets) sources.now }
-    ensures long { IfOk result (λ v. length v.items ≡ nets) }
-    ensures each { IfOk result (λ v. (n : ℕ) → Has sources.now n → level_at v.items n ≡ Some 0) }
-    ensures only { IfOk result (λ v. (n l : ℕ) → level_at v.items n ≡ Some l → (l ≡ 0) × Has sources.now n) }
+    ensures { IfOk result (λ v. AreZeros nets sources.now (length sources.now) v.items) }
 {
     let mut levels = vec![in alloc; None; nets]?;
     for source in sources {
@@ -113,9 +111,9 @@ fn first_levels(alloc: Global, net: &NetMaker) -> Result<Vec<Option<u32>>, Alloc
     requires { HasOneDriverEach net.now }
     ensures { IfOk result (λ v. ArePartial net.now v.items 0) }
 {
-    let sources = sources(alloc, net)?;
-    let levels = zeros(alloc, net.nets(), &sources)?;
-    Ok(levels)
+    let mut sources = Vec::new(alloc);
+    add_sources(&mut sources, net)?;
+    zeros(alloc, net.nets(), &sources)
 }
 
 /// The level of each net, where the nets stand each after the inputs of its gate.

@@ -5,7 +5,7 @@ ghost use Rattle.net_core.specs.Inside.{IsNetName, IsFull, HasNoMoreGates, IsIns
 ghost use Rattle.net_core.specs.Turned.{turned};
 
 use crate::label::Label;
-use crate::places::{Places, add_named};
+use crate::places::{Places, add_net};
 use crate::{Gate, Latch, NetFault, Start};
 use std::alloc::{AllocError, Global};
 use std::marker::Model;
@@ -103,7 +103,7 @@ impl NetMaker {
                 if self.labels.len() >= MAX_NETS {
                     return Err(NetFault::TooManyNets);
                 }
-                let number = add_named(self.alloc, &mut self.labels, name)?;
+                let number = add_net(self.alloc, &mut self.labels, name, true)?;
                 Ok(number)
             }
         }
@@ -123,9 +123,7 @@ impl NetMaker {
         if self.labels.len() >= MAX_NETS {
             return Err(NetFault::TooManyNets);
         }
-        let number = self.labels.len() as u32;
-        let label = Label::new(self.alloc, label, false)?;
-        self.labels.push(label)?;
+        let number = add_net(self.alloc, &mut self.labels, label, false)?;
         Ok(number)
     }
 

@@ -37,7 +37,7 @@ impl Name {
 }
 
 /// A list of names. Contracts see the list of their bytes.
-#[derive(Debug, Drop)]
+#[derive(Drop)]
 pub struct Names {
     list: Vec<Name>,
 }

@@ -1,14 +1,16 @@
 //! Sound nets.
-ghost use Rattle.std.specs.Prelude.{◌≡◌, ◌<◌, ◌≤◌, ◌^◌, ℕ, length, min, slice_get, slice_index, IfOk, IfErr, IfSome, OnOk, Err, Some};
-ghost use Rattle.net_core.specs.NetList.{nets, nets as nets_of, number_of, text_of};
+ghost use Rattle.std.specs.Prelude.{◌≡◌, ◌<◌, ◌≤◌, ◌^◌, length, slice_get, IfOk, IfErr, IfSome, OnOk, Err, Some};
+ghost use Rattle.net_core.specs.NetList.{nets, number_of, text_of};
 ghost use Rattle.net_core.specs.Inside.{IsInside};
-ghost use Rattle.net_core.specs.Sound.{IsSound, HasOneDriverEach, drivers};
+ghost use Rattle.net_core.specs.Sound.{IsSound, HasOneDriverEach};
 ghost use Rattle.net_core.specs.Turned.{turned};
 ghost use Rattle.net_core.specs.Levelled.{AllHaveLevels};
 ghost use Rattle.net_core.specs.Loop.{IsLoop};
 ghost use Rattle.net_core.specs.Finish.{Finishes};
+ghost use Rattle.net_core.specs.Driving.{roots_of};
+ghost use Rattle.net_core.specs.private.Counts.{AreCounts};
 
-use crate::drivers::{counts, driven, least};
+use crate::drivers::{counts, least, roots};
 use crate::driving::nets_in_order;
 use crate::levels::levels_by;
 use crate::{Gate, Latch, Name, NetFault, NetMaker, Numbers};
@@ -127,28 +129,28 @@ impl Net {
     }
 }
 
-// How often each net is driven, where 2 stands for more too.
-fn driver_counts(alloc: Global, net: &NetMaker) -> Result<Vec<u8>, AllocError>
-    ensures long { IfOk result (λ v. length v.items ≡ nets net.now) }
-    ensures few { IfOk result (λ v. length v.items ≤ 2 ^ 20) }
-    ensures each { IfOk result (λ v. (n : ℕ) → n < nets net.now → slice_index v.items n ≡ min 2 (drivers net.now n)) }
-{
-    let driven = driven(alloc, net)?;
-    let counts = counts(alloc, net.nets(), &driven)?;
-    Ok(counts)
-}
-
 // Whether each net has one driver.
 fn check_drivers(alloc: Global, net: &NetMaker) -> Result<(), NetFault>
     ensures one { OnOk result (HasOneDriverEach net.now) }
     ensures fault { IfErr result (λ e. Finishes net.now (Err e)) }
 {
-    let counts = driver_counts(alloc, net)?;
-    if let Some(twice) = least(&counts, 2) {
+    let driven = roots(alloc, net)?;
+    let counts = counts(alloc, net.nets(), &driven)?;
+    check_counts(alloc, net, &counts)
+}
+
+// Whether each net is driven once, by how often each is, where 2 stands for more too.
+fn check_counts(alloc: Global, net: &NetMaker, counts: &[u8]) -> Result<(), NetFault>
+    requires few { length counts.now ≤ 2 ^ 20 }
+    requires counted { AreCounts (roots_of net.now) (nets net.now) counts.now }
+    ensures one { OnOk result (HasOneDriverEach net.now) }
+    ensures fault { IfErr result (λ e. Finishes net.now (Err e)) }
+{
+    if let Some(twice) = least(counts, 2) {
         let label = Name::new(alloc, net.label(twice))?;
         return Err(NetFault::DrivenTwice { net: twice, label });
     }
-    if let Some(undriven) = least(&counts, 0) {
+    if let Some(undriven) = least(counts, 0) {
         let label = Name::new(alloc, net.label(undriven))?;
         return Err(NetFault::Undriven {
             net: undriven,
@@ -175,16 +177,6 @@ fn find_levels(alloc: Global, net: &NetMaker) -> Result<Vec<Option<u32>>, NetFau
     }
 }
 
-// The first net of a loop.
-fn first_net(_net: &NetMaker, nets: &[u32]) -> u32
-    requires inside { IsInside _net.now }
-    requires found { IsLoop _net.now nets.now }
-    ensures first { slice_get nets.now 0 ≡ Some result }
-    ensures within { result < nets_of _net.now }
-{
-    nets[0]
-}
-
 // The fault that names this loop, or out of memory.
 fn loop_fault(alloc: Global, net: &NetMaker, nets: Vec<u32>) -> NetFault
     requires inside { IsInside net.now }
@@ -192,8 +184,7 @@ fn loop_fault(alloc: Global, net: &NetMaker, nets: Vec<u32>) -> NetFault
     requires found { IsLoop net.now nets.items }
     ensures { Finishes net.now (Err result) }
 {
-    let first = first_net(net, &nets);
-    match Name::new(alloc, net.label(first)) {
+    match Name::new(alloc, net.label(nets[0])) {
         Ok(label) => NetFault::Loop {
             nets: Numbers::new(nets),
             label,

@@ -1,5 +1,5 @@
 //! Where names stand among labels.
-ghost use Rattle.std.specs.Prelude.{◌≡◌, ℕ, None, nat_eq, ◌<◌, ◌≤◌, ◌^◌, ◌++◌, ◌∷◌, [], length, IfOk, OnOk, OnErr, true};
+ghost use Rattle.std.specs.Prelude.{◌≡◌, ℕ, None, nat_eq, ◌<◌, ◌≤◌, ◌^◌, ◌++◌, ◌∷◌, [], length, IfOk, OnOk, OnErr};
 ghost use Rattle.net_core.specs.NetList.{number_from};
 ghost use Rattle.indexmap.specs.IndexMap.{get};
 ghost use Rattle.net_core.specs.private.Placed.{IsPlaced, HasPlace, AreFound, has_name_at};
@@ -83,19 +83,20 @@ fn note(first: &mut IndexMap<u64, u32>, hash: u64, next: u32) -> Result<Option<u
     }
 }
 
-// Adds a net of this name.
-pub(crate) fn add_named(
+// Adds a net of this text, which finds the net where it is a name.
+pub(crate) fn add_net(
     alloc: Global,
     labels: &mut Vec<Label>,
-    name: &str,
+    text: &str,
+    named: bool,
 ) -> Result<u32, AllocError>
     requires room { length labels.old.items < 2 ^ 20 }
     ensures number { IfOk result (λ n. n ≡ length labels.old.items) }
-    ensures made { OnOk result (labels.new.items ≡ labels.old.items ++ record { text = name.now; named = true } ∷ []) }
+    ensures made { OnOk result (labels.new.items ≡ labels.old.items ++ record { text = text.now; named = named } ∷ []) }
     ensures unchanged { OnErr result (labels.new.items ≡ labels.old.items) }
 {
     let number = labels.len() as u32;
-    let label = Label::new(alloc, name, true)?;
+    let label = Label::new(alloc, text, named)?;
     labels.push(label)?;
     Ok(number)
 }

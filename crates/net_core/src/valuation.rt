@@ -85,8 +85,7 @@ fn values_by(
     requires one { HasOneDriverEach net.now }
     requires order { (levels : _) × AllHaveLevels net.now levels × IsOrder net.now levels order.now }
     requires values { length values.now ≡ length net.now.inputs }
-    ensures consistent { IfOk result (λ v. IsConsistent net.now v.items) }
-    ensures values { IfOk result (λ v. HasValues net.now values.now v.items) }
+    ensures { IfOk result (λ v. IsConsistent net.now v.items × HasValues net.now values.now v.items) }
 {
     let mut bits = input_bits(alloc, net, values)?;
     for position in order {
@@ -107,6 +106,5 @@ pub fn eval(alloc: Global, net: &Net, values: &[bool]) -> Result<Vec<bool>, Allo
 {
     let made = net.made();
     let order = order_by(alloc, made, net.levels())?;
-    let bits = values_by(alloc, made, &order, values)?;
-    Ok(bits)
+    values_by(alloc, made, &order, values)
 }

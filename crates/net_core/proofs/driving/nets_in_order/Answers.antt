@@ -1,16 +1,23 @@
-use Rattle.std.proofs.Common.{◌∙◌, rules, subst, List, ℕ}
+use Rattle.std.proofs.Common.{◌∙◌, sym, subst, List, ℕ}
+use Rattle.std.proofs.lemmas.Result.{MatchResult-weaker}
+use Rattle.graph_core.specs.Arranged.{IsArranged}
 use Rattle.graph_core.specs.Fault.{IsCycleFault}
-use Rattle.net_core.specs.Driving.{IsLoopFault, roots_of}
-use Rattle.net_core.proofs.LoopLemmas.{loop_fault_of, roots_inside}
+use Rattle.net_core.specs.Driving.{roots_of}
+use Rattle.net_core.proofs.LevelLemmas.{roots_inside}
+use Rattle.net_core.proofs.LoopLemmas.{loop_fault_of}
 use Rattle.net_core.proofs.driving.nets_in_order.Goals as goal
 
 pub arrange-requires : goal.arrange-requires
-arrange-requires c = rw (c.deref.ensures.value, c.in_ok-roots.ensures) (roots_inside c.args.net.now c.in_ok-graph.graph c.graph_of.ensures.inside c.in_ok-graph.ensures.graph)
+arrange-requires c = rw (c.deref.ensures.value, c.in_ok-roots.ensures, c.in_ok-graph.ensures.graph.long) (roots_inside c.args.net.now c.graph_of.ensures.inside)
 
-pub returns-in_err-order-clause-cycle : goal.returns-in_err-order-clause-cycle
-returns-in_err-order-clause-cycle c =
-    let same = c.deref.ensures.value ∙ c.in_ok-roots.ensures in
-    let P : List ℕ → Type 0 = λ roots. IsCycleFault c.in_ok-graph.graph roots c.in_err-order.field-0.0 in
-    let cycle : P (roots_of c.args.net.now) = subst P same c.in_err-order.ensures.cycle in
-    let fault : IsLoopFault c.args.net.now c.in_err-order.field-0.0 = loop_fault_of c.args.net.now c.in_ok-graph.graph c.in_err-order.field-0.0 c.requires c.graph_of.ensures.inside c.in_ok-graph.ensures.graph cycle in
-    search rules
+pub returns-clause-order : goal.returns-clause-order
+returns-clause-order c =
+    MatchResult-weaker c.arrange.result c.arrange.ensures.arranged (λ order is.
+    let P : List ℕ → Type 0 = λ roots. IsArranged c.in_ok-graph.graph roots order.items in
+    (c.in_ok-graph.graph, c.in_ok-graph.ensures.graph, subst P (c.deref.ensures.value ∙ c.in_ok-roots.ensures) is)) (λ fault w. w)
+
+pub returns-clause-cycle : goal.returns-clause-cycle
+returns-clause-cycle c =
+    MatchResult-weaker c.arrange.result c.arrange.ensures.cycle (λ order w. w) (λ fault is.
+    let P : List ℕ → Type 0 = λ roots. IsCycleFault c.in_ok-graph.graph roots fault in
+    loop_fault_of c.args.net.now c.in_ok-graph.graph fault c.requires c.graph_of.ensures.inside c.in_ok-graph.ensures.graph (subst P (c.deref.ensures.value ∙ c.in_ok-roots.ensures) is))

@@ -25,5 +25,8 @@ loop-position-preserved c =
       values = rw made (values_step c.args.net.now c.args.values.now c.loop-position.bits.items _ g.0 c.in_ok-bits.ensures.inside c.requires.one c.loop-position.invariant.values (p, g.1));
     }
 
-pub returns-clause-consistent : goal.returns-clause-consistent
-returns-clause-consistent c = all_right c.args.net.now c.requires.order.0 c.args.order.now c.loop-position.position-index c.loop-position.bits.items c.requires.order.2 c.loop-position.invariant.right c.loop-position-test.false
+pub returns : goal.returns
+returns c = (
+  all_right c.args.net.now c.requires.order.0 c.args.order.now c.loop-position.position-index c.loop-position.bits.items c.requires.order.2 c.loop-position.invariant.right c.loop-position-test.false,
+  c.loop-position.invariant.values,
+)

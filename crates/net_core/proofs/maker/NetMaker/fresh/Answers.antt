@@ -1,9 +1,14 @@
-use Rattle.std.proofs.Common.{◌≡◌, ◌∙◌, ap, sym, arith, ◌++◌, ◌∷◌, [], false}
-use Rattle.net_core.specs.NetList.{LabelValue}
+use Rattle.std.proofs.Common.{◌∙◌, ap, sym, arith}
+use Rattle.net_core.specs.NetList.{nets}
 use Rattle.net_core.proofs.NameLemmas.{fresh_made, inside_fresh}
 use Rattle.net_core.proofs.maker.NetMaker.fresh.Goals as goal
 
 pub invariant_of-self-2 : goal.invariant_of-self-2
 invariant_of-self-2 c =
-    let pushed : c.push.new.self.items ≡ c.self.inside.labels.items ++ record { text = c.args.label.now; named = false } ∷ [] = c.in_ok-push.ensures.items ∙ ap (λ (l : LabelValue). c.self.inside.labels.items ++ l ∷ []) c.in_ok-label.ensures in
-    ((λ q none. sym (fresh_made c.self.inside.labels.items c.push.new.self.items c.args.label.now pushed q) ∙ c.self.invariant.0 q none), inside_fresh (record { labels = c.self.inside.labels.items; inputs = c.self.inside.inputs.items; outputs = c.self.inside.outputs.items; gates = c.self.inside.gates.items; latches = c.self.inside.latches.items }) c.push.new.self.items _ pushed (omega arith) c.self.invariant.1)
+    let old = c.self.inside in (
+      (λ q none. sym (fresh_made old.labels.items c.add_net.new.labels.items c.args.label.now c.in_ok-number.ensures.made q) ∙ c.self.invariant.0 q none),
+      inside_fresh (record { labels = old.labels.items; inputs = old.inputs.items; outputs = old.outputs.items; gates = old.gates.items; latches = old.latches.items }) c.add_net.new.labels.items _ c.in_ok-number.ensures.made (omega arith) c.self.invariant.1,
+    )
+
+pub returns-clause-number : goal.returns-clause-number
+returns-clause-number c = c.in_ok-number.ensures.number ∙ ap nets c.self.view_is
