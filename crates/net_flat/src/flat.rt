@@ -59,8 +59,10 @@ pub fn flatten(alloc: Global, design: &Design, model: u32) -> Result<Net, FlatFa
     ensures net { IfOk result (λ net. Flattens design.now model (Ok net)) }
     ensures fault { IfErr result (λ e. (e ≡ FlatFault.OutOfMemory) ⊎ Flattens design.now model (Err e)) }
 {
-    let maker = walk(alloc, design, model)?;
-    finished(maker)
+    match walk(alloc, design, model) {
+        Ok(maker) => finished(maker),
+        Err(fault) => Err(fault),
+    }
 }
 
 /// The same net of a design that is let go as soon as its lines were walked: its text is out of memory before the drivers and
@@ -69,7 +71,10 @@ pub fn flatten_design(alloc: Global, design: Design, model: u32) -> Result<Net, 
     ensures net { IfOk result (λ net. Flattens design model (Ok net)) }
     ensures fault { IfErr result (λ e. (e ≡ FlatFault.OutOfMemory) ⊎ Flattens design model (Err e)) }
 {
-    let maker = walk(alloc, &design, model)?;
+    let made = walk(alloc, &design, model);
     drop(design);
-    finished(maker)
+    match made {
+        Ok(maker) => finished(maker),
+        Err(fault) => Err(fault),
+    }
 }

@@ -1,9 +1,5 @@
 //! Faults of flattening.
-ghost use Rattle.std.specs.Prelude.{◌≡◌};
-ghost use Rattle.net_flat.specs.declared.flat_fault.FlatFault.TheVariants.{OutOfMemory};
-
 use net_core::NetFault;
-use std::alloc::{AllocError, AllocFailed};
 use thiserror::Error;
 
 /// Why a model has no net.
@@ -18,20 +14,4 @@ pub enum FlatFault {
     /// There was no memory for the net.
     #[error("out of memory")]
     OutOfMemory,
-}
-
-impl From<AllocError> for FlatFault {
-    ghost from_gives = { λ _ e. e ≡ OutOfMemory };
-
-    fn from(_error: AllocError) -> FlatFault {
-        FlatFault::OutOfMemory
-    }
-}
-
-impl<T: Drop> From<AllocFailed<T>> for FlatFault {
-    ghost from_gives = { λ _ e. e ≡ OutOfMemory };
-
-    fn from(_error: AllocFailed<T>) -> FlatFault {
-        FlatFault::OutOfMemory
-    }
 }

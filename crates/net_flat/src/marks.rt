@@ -49,17 +49,6 @@ fn stands_at(marks: &IndexMap<String, Mark, KeyedHash>, place: usize, name: &[u8
     }
 }
 
-// This place, if a name stands there.
-fn if_stands(marks: &IndexMap<String, Mark, KeyedHash>, place: usize, name: &[u8]) -> Option<usize>
-    ensures { IfSome result (λ p. StandsAt marks.now p name.now) }
-{
-    if stands_at(marks, place, name) {
-        Some(place)
-    } else {
-        None
-    }
-}
-
 // Where a name stands that does not stand where the order says, and its mark. Never inlined: on later walks over a model few names come here.
 #[inline(never)]
 fn look_up(
@@ -73,7 +62,11 @@ fn look_up(
 {
     let (place, mark) = search(marks, text_of(name));
     order.put(place);
-    (if_stands(marks, place, name), mark)
+    if stands_at(marks, place, name) {
+        (Some(place), mark)
+    } else {
+        (None, mark)
+    }
 }
 
 /// Where a name stands, and its mark. It is looked for where the order says first. Always inlined, since a call would hand
@@ -94,15 +87,6 @@ pub fn seek(
         return (Some(hint), Some(mark));
     }
     look_up(marks, order, name)
-}
-
-// Gives the name that stands at this place a mark.
-fn write_at(marks: &mut IndexMap<String, Mark, KeyedHash>, place: usize, name: &[u8], mark: Mark)
-    requires { StandsAt marks.old place name.now }
-    ensures { (q : List ℕ) → get_by_text marks.new q ≡ with_mark (get_by_text marks.old) name.now mark q }
-{
-    let (_, old) = marks.pair_mut(place);
-    *old = mark;
 }
 
 // Gives a name a mark, wherever it stands. Never inlined: a name comes here once.
@@ -137,7 +121,8 @@ pub fn put(
 {
     match place {
         Some(place) => {
-            write_at(marks, place, name, mark);
+            let (_, old) = marks.pair_mut(place);
+            *old = mark;
             Ok(())
         }
         None => write(alloc, marks, text_of(name), mark),

@@ -1,16 +1,16 @@
 //! A net list in the making and the name that was mentioned last.
-ghost use Rattle.std.specs.Prelude.{◌≡◌, ◌⊎◌, ◌<◌, ◌≤◌, ◌^◌, ◌++◌, ◌∷◌, [], ℕ, Ok, Some, All, IfOk, IfErr, IfSome, OnOk, IsErrOf, length, false};
-ghost use Rattle.net_core.specs.Inside.{HasNoMoreGates, IsFull, IsNetName};
+ghost use Rattle.std.specs.Prelude.{◌≡◌, ◌<◌, ◌≤◌, ◌^◌, ◌++◌, ◌∷◌, [], ℕ, Ok, Some, All, IfOk, IfErr, IfSome, OnOk, length, false};
+ghost use Rattle.net_core.specs.Inside.{HasNoMoreGates, IsFull};
 ghost use Rattle.net_core.specs.NetList.{empty, nets, number_of, with_gate, with_label, with_latch};
 ghost use Rattle.net_blif.specs.Statement.{IsToken};
 ghost use Rattle.net_flat.specs.Steps.{Mention};
 ghost use Rattle.net_flat.specs.private.LocalWalk.{InTop, IsFaultOf, local_step, state_with};
-ghost use Rattle.net_flat.specs.private.Stopping.{IsFaultOfNet};
+ghost use Rattle.net_flat.specs.private.Stopping.{IsFaultOfGate, IsFaultOfNet};
 
 use crate::equal_names::is_same;
 use crate::stop::Stop;
 use net_blif::text_of;
-use net_core::{NetFault, NetMaker, Start};
+use net_core::{NetMaker, Start};
 use std::alloc::{AllocError, Global};
 use std::marker::Model;
 
@@ -33,32 +33,6 @@ impl<'a> Model for Namer<'a> {
     ghost view = { λ m. m.maker };
 
     ghost invariant = { λ m. IfSome m.number (λ n. number_of m.maker m.last.now ≡ Some n) };
-}
-
-// The number of the net of a name of the chosen model, which is made if it is new.
-fn mention_in(maker: &mut NetMaker, name: &str) -> Result<u32, Stop>
-    requires { IsNetName name.now }
-    ensures number { IfOk result (λ n. number_of maker.new name.now ≡ Some n) }
-    ensures made { (i : ℕ) → OnOk result (local_step (state_with maker.old i InTop) (Mention name.now) ≡ Ok (state_with maker.new i InTop)) }
-    ensures fault { (i : ℕ) → IfErr result (IsFaultOf (local_step (state_with maker.old i InTop) (Mention name.now))) }
-{
-    match maker.net(name) {
-        Ok(number) => Ok(number),
-        Err(fault) => Err(Stop::of_net(fault)),
-    }
-}
-
-// The number of a new net that no name finds.
-fn fresh_in(maker: &mut NetMaker, label: &str) -> Result<u32, Stop>
-    ensures number { IfOk result (λ n. n ≡ nets maker.old) }
-    ensures made { OnOk result (maker.new ≡ with_label maker.old label.now false) }
-    ensures room { OnOk result (IsFull maker.old → ⊥) }
-    ensures fault { IfErr result (IsFaultOfNet maker.old) }
-{
-    match maker.fresh(label) {
-        Ok(number) => Ok(number),
-        Err(fault) => Err(Stop::of_net(fault)),
-    }
 }
 
 impl<'a> Namer<'a> {
@@ -91,24 +65,22 @@ impl<'a> Namer<'a> {
         }
     }
 
-    // Keeps the name that was mentioned last.
-    fn keep(&mut self, name: &'a [u8], number: u32)
-        requires { number_of self.old name.now ≡ Some number }
-        ensures { self.new ≡ self.old }
-    {
-        self.last = name;
-        self.number = Some(number);
-    }
-
-    // The number of the net of a name that is looked up, and made if it is new.
-    fn look_up(&mut self, name: &[u8]) -> Result<u32, Stop>
+    // The number of the net of a name that is looked up, and made if it is new; it is then the name that was mentioned last.
+    fn look_up(&mut self, name: &'a [u8]) -> Result<u32, Stop>
         requires { IsToken name.now }
         ensures number { IfOk result (λ n. number_of self.new name.now ≡ Some n) }
         ensures made { (i : ℕ) → OnOk result (local_step (state_with self.old i InTop) (Mention name.now) ≡ Ok (state_with self.new i InTop)) }
         ensures fault { (i : ℕ) → IfErr result (IsFaultOf (local_step (state_with self.old i InTop) (Mention name.now))) }
     {
         self.number = None;
-        mention_in(&mut self.maker, text_of(name))
+        match self.maker.net(text_of(name)) {
+            Ok(number) => {
+                self.last = name;
+                self.number = Some(number);
+                Ok(number)
+            }
+            Err(fault) => Err(Stop::of_fault(fault)),
+        }
     }
 
     /// The number of the net of a name of the chosen model, which is made if it is new.
@@ -118,12 +90,10 @@ impl<'a> Namer<'a> {
         ensures made { (i : ℕ) → OnOk result (local_step (state_with self.old i InTop) (Mention name.now) ≡ Ok (state_with self.new i InTop)) }
         ensures fault { (i : ℕ) → IfErr result (IsFaultOf (local_step (state_with self.old i InTop) (Mention name.now))) }
     {
-        if let Some(number) = self.known(name) {
-            return Ok(number);
+        match self.known(name) {
+            Some(number) => Ok(number),
+            None => self.look_up(name),
         }
-        let number = self.look_up(name)?;
-        self.keep(name, number);
-        Ok(number)
     }
 
     /// The number of a new net that no name finds; the label is for messages.
@@ -134,7 +104,11 @@ impl<'a> Namer<'a> {
         ensures fault { IfErr result (IsFaultOfNet self.old) }
     {
         self.number = None;
-        fresh_in(&mut self.maker, label)
+        let number = match self.maker.fresh(label) {
+            Ok(number) => number,
+            Err(fault) => return Err(Stop::of_fault(fault)),
+        };
+        Ok(number)
     }
 
     /// Makes a net that there is a primary input, after those before.
@@ -154,28 +128,32 @@ impl<'a> Namer<'a> {
     }
 
     /// Adds a gate that drives the net `out`, after those before.
-    pub fn gate(&mut self, out: u32, inputs: &[u32], table: u64) -> Result<(), NetFault>
+    pub fn gate(&mut self, out: u32, inputs: &[u32], table: u64) -> Result<(), Stop>
         requires few { length inputs.now ≤ 6 }
         requires out { out < nets self.old }
         requires inputs { All (λ n. n < nets self.old) inputs.now }
         requires table { table < 2 ^ (2 ^ length inputs.now) }
-        ensures made { OnOk result (self.new ≡ with_gate self.old (record { out = out; inputs = inputs.now; table = table })) }
-        ensures room { OnOk result (HasNoMoreGates self.old → ⊥) }
-        ensures full { IsErrOf result NetFault.TooManyGates → HasNoMoreGates self.old }
-        ensures only { IfErr result (λ fault. (fault ≡ NetFault.TooManyGates) ⊎ (fault ≡ NetFault.OutOfMemory)) }
+        ensures made { OnOk result ((self.new ≡ with_gate self.old (record { out = out; inputs = inputs.now; table = table })) × (HasNoMoreGates self.old → ⊥)) }
+        ensures fault { IfErr result (IsFaultOfGate self.old) }
     {
-        self.maker.gate(out, inputs, table)
+        match self.maker.gate(out, inputs, table) {
+            Ok(()) => {}
+            Err(fault) => return Err(Stop::of_fault(fault)),
+        }
+        Ok(())
     }
 
     /// Adds a latch that drives the net `out`, after those before.
-    pub fn latch(&mut self, next: u32, out: u32, start: Start) -> Result<(), NetFault>
+    pub fn latch(&mut self, next: u32, out: u32, start: Start) -> Result<(), Stop>
         requires next { next < nets self.old }
         requires out { out < nets self.old }
-        ensures made { OnOk result (self.new ≡ with_latch self.old (record { next = next; out = out; start = start })) }
-        ensures room { OnOk result (HasNoMoreGates self.old → ⊥) }
-        ensures full { IsErrOf result NetFault.TooManyGates → HasNoMoreGates self.old }
-        ensures only { IfErr result (λ fault. (fault ≡ NetFault.TooManyGates) ⊎ (fault ≡ NetFault.OutOfMemory)) }
+        ensures made { OnOk result ((self.new ≡ with_latch self.old (record { next = next; out = out; start = start })) × (HasNoMoreGates self.old → ⊥)) }
+        ensures fault { IfErr result (IsFaultOfGate self.old) }
     {
-        self.maker.latch(next, out, start)
+        match self.maker.latch(next, out, start) {
+            Ok(()) => {}
+            Err(fault) => return Err(Stop::of_fault(fault)),
+        }
+        Ok(())
     }
 }

@@ -109,10 +109,7 @@ impl<'a> Walker<'a> {
     {
         self.mention_all(inputs)?;
         let number = self.mention(out)?;
-        match self.maker.gate(number, self.inputs.as_slice(), table) {
-            Ok(()) => Ok(()),
-            Err(fault) => Err(Stop::of_gate(fault)),
-        }
+        self.maker.gate(number, self.inputs.as_slice(), table)
     }
 
     // Adds a latch on the nets of names.
@@ -126,10 +123,7 @@ impl<'a> Walker<'a> {
     {
         let read = self.mention(next)?;
         let driven = self.mention(out)?;
-        match self.maker.latch(read, driven, start) {
-            Ok(()) => Ok(()),
-            Err(fault) => Err(Stop::of_gate(fault)),
-        }
+        self.maker.latch(read, driven, start)
     }
 
     // Goes into an instance, if there may be one more.
@@ -195,8 +189,7 @@ impl<'a> Walker<'a> {
         ensures fault { IfErr result (IsFaultOf (local_walked (state_of self.old) (Enter ∷ actual_steps connections.now))) }
     {
         self.begin_instance()?;
-        self.place_actuals(connections)?;
-        Ok(())
+        self.place_actuals(connections)
     }
 
     /// Places what a line says; the body of an instance is left.

@@ -34,29 +34,17 @@ impl Model for Stop {
 }
 
 impl Stop {
-    /// A net is refused.
-    pub fn of_net(fault: NetFault) -> Stop
-        requires { (fault ≡ NetFault.TooManyNets) ⊎ (fault ≡ NetFault.OutOfMemory) }
+    /// A net, or a gate or latch, is refused.
+    pub fn of_fault(fault: NetFault) -> Stop
+        requires { (fault ≡ NetFault.TooManyNets) ⊎ (fault ≡ NetFault.TooManyGates) ⊎ (fault ≡ NetFault.OutOfMemory) }
         ensures { IsFaultBy fault result }
     {
         match fault {
             NetFault::OutOfMemory => Stop {
                 cause: Cause::OutOfMemory,
             },
-            _ => Stop {
+            NetFault::TooManyNets => Stop {
                 cause: Cause::TooManyNets,
-            },
-        }
-    }
-
-    /// A gate or latch is refused.
-    pub fn of_gate(fault: NetFault) -> Stop
-        requires { (fault ≡ NetFault.TooManyGates) ⊎ (fault ≡ NetFault.OutOfMemory) }
-        ensures { IsFaultBy fault result }
-    {
-        match fault {
-            NetFault::OutOfMemory => Stop {
-                cause: Cause::OutOfMemory,
             },
             _ => Stop {
                 cause: Cause::TooManyGates,

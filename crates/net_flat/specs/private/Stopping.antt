@@ -1,7 +1,7 @@
 -- The fault that ends a walk early. Source: this project's own.
 use Rattle.std.specs.Prelude.{◌≡◌, ◌⊎◌}
 use Rattle.net_core.specs.NetList.{NetList}
-use Rattle.net_core.specs.Inside.{IsFull}
+use Rattle.net_core.specs.Inside.{HasNoMoreGates, IsFull}
 use Rattle.net_core.specs.declared.fault.NetFault.{NetFault}
 use Rattle.net_core.specs.declared.fault.NetFault.TheVariants as nets
 use Rattle.net_flat.specs.declared.flat_fault.FlatFault.{FlatFault}
@@ -23,3 +23,10 @@ IsFaultBy refusal fault = ((refusal ≡ nets.OutOfMemory) × (fault ≡ faults.O
 -- why there is no new net: out of memory, or it would be the 1,048,577th
 abbrev pub IsFaultOfNet : NetList → FlatFault → Type 0
 IsFaultOfNet net fault = (fault ≡ faults.OutOfMemory) ⊎ (IsFull net × (fault ≡ faults.Net nets.TooManyNets))
+
+-- why there is no gate or latch more: out of memory, or it would be the 1,048,577th of both
+pub record IsFaultOfGate (net : NetList) (fault : FlatFault) : Type 0 where
+  pub refusal : NetFault
+  pub is : IsFaultBy refusal fault
+  pub only : (refusal ≡ nets.TooManyGates) ⊎ (refusal ≡ nets.OutOfMemory)
+  pub full : refusal ≡ nets.TooManyGates → HasNoMoreGates net

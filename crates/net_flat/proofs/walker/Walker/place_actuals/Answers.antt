@@ -1,4 +1,4 @@
-use Rattle.std.proofs.Common.{rules, ◌∙◌, ap, subst, ◌<◌, ◌≤◌, ℕ, List, [], ◌∷◌, ◌++◌, length, map}
+use Rattle.std.proofs.Common.{rules, arith, refl, drop_of_length-le, ◌∙◌, ap, subst, ◌<◌, ◌≤◌, ℕ, List, [], ◌∷◌, ◌++◌, length, map}
 use Rattle.std.proofs.lemmas.List.{take_all}
 use Rattle.net_blif.specs.Statement.{Token}
 use Rattle.net_blif.specs.Connection.{actual_of}
@@ -7,6 +7,9 @@ use Rattle.net_flat.specs.private.LocalWalk.{local_walked, number_in, HasEach, I
 use Rattle.net_flat.proofs.StateLemmas.{each_more, made_mention, numbers_more, refused_mention}
 use Rattle.net_flat.specs.private.WalkerState.{state_of}
 use Rattle.net_flat.proofs.walker.Walker.place_actuals.Goals as goal
+
+pub loop-place-init : goal.loop-place-init
+loop-place-init c = record { inside = c.requires.inside; walk = refl; numbers = c.clear.ensures.items; found = λ i d less. absurd (omega (arith, less)) }
 
 pub loop-place-preserved : goal.loop-place-preserved
 loop-place-preserved c =
@@ -34,3 +37,8 @@ returns-clause-found c =
     let past : length c.args.connections.now ≤ c.loop-place.place = rw c.len-place-end.ensures at c.loop-place-test.false in
     let P : List Token → Type 0 = HasEach (state_of c.loop-place.self) in
     subst P (ap (map actual_of) (take_all c.loop-place.place c.args.connections.now past)) c.loop-place.invariant.found
+
+pub returns-clause-made : goal.returns-clause-made
+returns-clause-made c =
+    let past : length c.args.connections.now ≤ c.loop-place.place = rw c.len-place-end.ensures at c.loop-place-test.false in
+    c.loop-place.invariant.walk ∙ ap (λ (xs : List Token). local_walked (state_of c.loop-place.self) (actual_steps xs)) (drop_of_length-le c.args.connections.now past)
