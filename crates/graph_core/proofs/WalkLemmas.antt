@@ -1,5 +1,5 @@
 -- The steps of a walk in depth.
-use Rattle.std.proofs.Common.{◌≡◌, ◌∙◌, ap, sym, refl, inl, inr, ℕ, zero, suc, ◌<◌, ◌≤◌, ◌+◌, ◌^◌, List, [], ◌∷◌, ◌++◌, length, replicate, None, Some, arith, below_more, ◌-◌, length-set}
+use Rattle.std.proofs.Common.{◌≡◌, ◌∙◌, ap, sym, refl, inl, inr, subst, ℕ, zero, suc, ◌<◌, ◌≤◌, ◌+◌, ◌^◌, List, [], ◌∷◌, ◌++◌, length, replicate, None, Some, arith, below_more, ◌-◌, length-set}
 use Rattle.std.proofs.lemmas.Option.{slice_get_within}
 use Rattle.std.specs.Prelude.{slice_get}
 use Rattle.std.proofs.Math.ListN.{set}
@@ -8,7 +8,7 @@ use Rattle.lists.specs.laws.NumberLaws.{nat_eq_or}
 use Rattle.lists.specs.laws.ReadLaws.{got_push, get_front, get_here, got_set, get_set_other, get_set_same, get_none}
 use Rattle.lists.specs.laws.SumLaws.{sum_by-set_at, sum_by-push}
 use Rattle.graph_core.specs.Graph.{Graph, edges, HasEdge, IsReached}
-use Rattle.graph_core.specs.Walking.{IsWalking, AreDone, AreUnseen, IsDone, IsMet, KeepsMet, MetAreReached, StartsAt, LeadsBelow, weight, unseen, work}
+use Rattle.graph_core.specs.Walking.{IsWalking, AreDone, AreUnseen, IsDone, IsMet, IsStep, IsVisit, KeepsMet, MetAreReached, StartsAt, LeadsBelow, weight, unseen, work}
 use Rattle.graph_core.specs.declared.walk.Mark.{Mark}
 use Rattle.graph_core.specs.declared.walk.Mark.TheVariants.{Unseen, Open, Done}
 use Rattle.graph_core.specs.declared.walk.Frame.{Frame}
@@ -246,3 +246,54 @@ reached_left graph roots marks i was mark here not reached = reached_set graph r
 pub reached_down : (graph : Graph) (roots : List ℕ) (marks : List Mark) (from : ℕ) (was : Mark) (k to : ℕ) (mark : Mark) → slice_get marks from ≡ Some was → (was ≡ Unseen → ⊥) → slice_get (edges graph from) k ≡ Some to → MetAreReached graph roots marks → MetAreReached graph roots (set marks to mark)
 reached_down graph roots marks from was k to mark here not edge reached =
     reached_set graph roots marks to mark (reached_next graph roots from to (reached from (was, here, not)) (k, edge)) reached
+
+-- the point of the frame was left
+pub step_left : (graph : Graph) (marks : List Mark) (front : List Frame) (f : Frame) (order : List ℕ) → IsWalking graph marks (front ++ f ∷ []) order → slice_get (edges graph f.point) f.next ≡ None → IsStep graph marks (front ++ f ∷ []) (set marks f.point (Done (length order))) front (order ++ f.point ∷ [])
+step_left graph marks front f order walk past =
+    let at = (walk.frames (length front) f (get_here front f [])).0 in
+    record {
+      walk = left graph marks front f order walk past;
+      first = λ root starts. starts_left root front f starts;
+      met = met_set marks f.point (Open (length front)) (Done (length order)) at (λ e. cc);
+      only = λ roots. reached_left graph roots marks f.point (Open (length front)) (Done (length order)) at (λ e. cc);
+      falls = work_left graph marks front f order (length order) walk;
+    }
+
+-- an edge to a point that is done was passed by
+pub step_next : (graph : Graph) (marks : List Mark) (front : List Frame) (f : Frame) (order : List ℕ) (to rank : ℕ) → f.next < 2 ^ 63 → IsWalking graph marks (front ++ f ∷ []) order → slice_get (edges graph f.point) f.next ≡ Some to → slice_get marks to ≡ Some (Done rank) → IsStep graph marks (front ++ f ∷ []) marks (front ++ record { point = f.point; next = f.next + 1 } ∷ []) order
+step_next graph marks front f order to rank small walk edge done =
+    record {
+      walk = advanced graph marks front f order to rank walk edge done;
+      first = λ root starts. starts_next root front f starts;
+      met = λ point met. met;
+      only = λ roots reached. reached;
+      falls = work_next marks front f (omega arith);
+    }
+
+-- an edge to a point that was not met was followed
+pub step_down : (graph : Graph) (marks : List Mark) (front : List Frame) (f : Frame) (order : List ℕ) (to place : ℕ) → place ≡ length (front ++ f ∷ []) → IsWalking graph marks (front ++ f ∷ []) order → slice_get (edges graph f.point) f.next ≡ Some to → slice_get marks to ≡ Some Unseen → IsStep graph marks (front ++ f ∷ []) (set marks to (Open place)) ((front ++ f ∷ []) ++ record { point = to; next = 0 } ∷ []) order
+step_down graph marks front f order to place is walk edge unseen =
+    let at = (walk.frames (length front) f (get_here front f [])).0 in
+    record {
+      walk = let P : ℕ → Type 0 = λ p. IsWalking graph (set marks to (Open p)) ((front ++ f ∷ []) ++ record { point = to; next = 0 } ∷ []) order in subst P (sym is) (descended graph marks front f order to walk edge unseen);
+      first = λ root starts. starts_more root front f (record { point = to; next = 0 }) starts;
+      met = met_set marks to Unseen (Open place) unseen (λ e. cc);
+      only = λ roots. reached_down graph roots marks f.point (Open (length front)) f.next to (Open place) at (λ e. cc) edge;
+      falls = work_down marks front f to place unseen;
+    }
+
+-- a root that leads to points that are done is done at once
+pub visit_done : (graph : Graph) (marks : List Mark) (stack : List Frame) (order : List ℕ) (root : ℕ) → IsWalking graph marks [] order → stack ≡ [] → slice_get marks root ≡ Some Unseen → AreDone marks (edges graph root) → IsVisit graph root marks (set marks root (Done (length order))) stack (order ++ root ∷ [])
+visit_done graph marks stack order root walk empty unseen are =
+    record {
+      walk = finished graph marks order root walk unseen are;
+      empty = empty;
+      met = met_set marks root Unseen (Done (length order)) unseen (λ e. cc);
+      here = met_here marks root Unseen (Done (length order)) unseen (λ e. cc);
+      only = λ roots has reached. reached_set graph roots marks root (Done (length order)) (inl has) reached;
+    }
+
+-- a root that was met needs no walk
+pub visit_met : (graph : Graph) (marks : List Mark) (stack : List Frame) (order : List ℕ) (root : ℕ) (mark : Mark) → IsWalking graph marks [] order → stack ≡ [] → slice_get marks root ≡ Some mark → (mark ≡ Unseen → ⊥) → IsVisit graph root marks marks stack order
+visit_met graph marks stack order root mark walk empty at not =
+    record { walk = walk; empty = empty; met = λ point met. met; here = (mark, at, not); only = λ roots has reached. reached }

@@ -1,5 +1,6 @@
 -- A walk in depth on its way. Source: Tarjan, Depth-First Search and Linear Graph Algorithms, 1972.
-use Rattle.std.specs.Prelude.{◌≡◌, ℕ, ◌<◌, ◌+◌, ◌*◌, ◌-◌, ◌^◌, List, length, Some, slice_get, sum_by}
+use Rattle.std.specs.Prelude.{◌≡◌, ℕ, ◌<◌, ◌+◌, ◌*◌, ◌-◌, ◌^◌, List, [], length, Some, slice_get, sum_by}
+use Rattle.lists.specs.Lists.{Has}
 use Rattle.graph_core.specs.Graph.{Graph, edges, IsReached}
 use Rattle.graph_core.specs.Cycle.{IsGrounded}
 use Rattle.graph_core.specs.declared.walk.Mark.{Mark}
@@ -65,3 +66,19 @@ MetAreReached graph roots marks = (point : ℕ) → IsMet marks point → IsReac
 
 abbrev pub AreUnseen : List Mark → Type 0
 AreUnseen marks = (point : ℕ) (mark : Mark) → slice_get marks point ≡ Some mark → mark ≡ Unseen
+
+-- what one step of a walk leaves of the marks and of the stack
+pub record IsStep (graph : Graph) (marks : List Mark) (stack : List Frame) (after : List Mark) (rest : List Frame) (order : List ℕ) : Type 0 where
+  pub walk : IsWalking graph after rest order
+  pub first : (root : ℕ) → StartsAt root stack → StartsAt root rest
+  pub met : KeepsMet marks after
+  pub only : (roots : List ℕ) → MetAreReached graph roots marks → MetAreReached graph roots after
+  pub falls : work after rest < work marks stack
+
+-- what a walk from a root leaves
+pub record IsVisit (graph : Graph) (root : ℕ) (marks after : List Mark) (stack : List Frame) (order : List ℕ) : Type 0 where
+  pub walk : IsWalking graph after [] order
+  pub empty : stack ≡ []
+  pub met : KeepsMet marks after
+  pub here : IsMet after root
+  pub only : (roots : List ℕ) → Has roots root → MetAreReached graph roots marks → MetAreReached graph roots after

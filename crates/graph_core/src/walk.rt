@@ -1,10 +1,9 @@
 //! A walk in depth, with a stack of its own, which puts points in an order or finds a cycle.
 ghost use Rattle.std.specs.Prelude.{◌≡◌, ◌<◌, ◌≤◌, ◌+◌, ◌^◌, ◌++◌, ◌∷◌, [], ℕ, All, IfErr, IfOk, IfSome, IsTrue, List, OnOk, Some, drop, length, map, slice_get, slice_set, vec_len};
-ghost use Rattle.lists.specs.Lists.{Has};
 ghost use Rattle.graph_core.specs.Arranged.{IsArranged};
 ghost use Rattle.graph_core.specs.Fault.{IsCycleFault};
 ghost use Rattle.graph_core.specs.Graph.{edges};
-ghost use Rattle.graph_core.specs.Walking.{AreDone, AreUnseen, EarlierAreGrounded, IsDone, IsMet, IsWalking, KeepsMet, MetAreReached, StartsAt, work};
+ghost use Rattle.graph_core.specs.Walking.{AreDone, AreUnseen, EarlierAreGrounded, IsDone, IsStep, IsVisit, IsWalking, StartsAt};
 ghost use Rattle.graph_core.specs.declared.walk.Mark.TheVariants.{Unseen, Open, Done};
 
 use crate::{CycleFault, Graph};
@@ -64,11 +63,7 @@ fn visit_root(
     requires root { root < length graph.now }
     requires walk { IsWalking graph.now marks.old.items [] order.old.items }
     requires stack { stack.old.items ≡ [] }
-    ensures walk { OnOk result (IsWalking graph.now marks.new.items [] order.new.items) }
-    ensures stack { OnOk result (stack.new.items ≡ []) }
-    ensures met { OnOk result (KeepsMet marks.old.items marks.new.items) }
-    ensures root { OnOk result (IsMet marks.new.items root) }
-    ensures only { OnOk result ((roots : List ℕ) → Has roots root → MetAreReached graph.now roots marks.old.items → MetAreReached graph.now roots marks.new.items) }
+    ensures visit { OnOk result (IsVisit graph.now root marks.old.items marks.new.items stack.new.items order.new.items) }
     ensures cycle { (roots : List ℕ) (i : ℕ) → EarlierAreGrounded graph.now roots root i → IfErr result (λ fault. IsCycleFault graph.now roots fault) }
 {
     match marks[root as usize] {
@@ -112,11 +107,7 @@ fn visit(
     requires root { slice_get marks.old.items root ≡ Some Unseen }
     requires walk { IsWalking graph.now marks.old.items [] order.old.items }
     requires stack { stack.old.items ≡ [] }
-    ensures walk { OnOk result (IsWalking graph.now marks.new.items [] order.new.items) }
-    ensures stack { OnOk result (stack.new.items ≡ []) }
-    ensures met { OnOk result (KeepsMet marks.old.items marks.new.items) }
-    ensures root { OnOk result (IsMet marks.new.items root) }
-    ensures only { OnOk result ((roots : List ℕ) → Has roots root → MetAreReached graph.now roots marks.old.items → MetAreReached graph.now roots marks.new.items) }
+    ensures visit { OnOk result (IsVisit graph.now root marks.old.items marks.new.items stack.new.items order.new.items) }
     ensures cycle { (roots : List ℕ) (i : ℕ) → EarlierAreGrounded graph.now roots root i → IfErr result (λ fault. IsCycleFault graph.now roots fault) }
 {
     if are_done(marks, graph.edges(root)) {
@@ -155,11 +146,7 @@ fn step(
     order: &mut Vec<u32>,
 ) -> Result<(), CycleFault>
     requires { IsWalking graph.now marks.old.items (stack.old.items ++ frame ∷ []) order.old.items }
-    ensures walk { OnOk result (IsWalking graph.now marks.new.items stack.new.items order.new.items) }
-    ensures first { OnOk result ((root : ℕ) → StartsAt root (stack.old.items ++ frame ∷ []) → StartsAt root stack.new.items) }
-    ensures met { OnOk result (KeepsMet marks.old.items marks.new.items) }
-    ensures only { OnOk result ((roots : List ℕ) → MetAreReached graph.now roots marks.old.items → MetAreReached graph.now roots marks.new.items) }
-    ensures work { OnOk result (work marks.new.items stack.new.items < work marks.old.items (stack.old.items ++ frame ∷ [])) }
+    ensures step { OnOk result (IsStep graph.now marks.old.items (stack.old.items ++ frame ∷ []) marks.new.items stack.new.items order.new.items) }
     ensures cycle { (root : ℕ) (roots : List ℕ) (i : ℕ) → StartsAt root (stack.old.items ++ frame ∷ []) → EarlierAreGrounded graph.now roots root i → IfErr result (λ fault. IsCycleFault graph.now roots fault) }
 {
     match next_edge(graph, frame) {

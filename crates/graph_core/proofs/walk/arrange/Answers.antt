@@ -22,13 +22,13 @@ loop-root-preserved c =
     let root : ℕ = get_or c.args.roots.now i 0 in
     let here : slice_get c.args.roots.now i ≡ Some root = got_at c.args.roots.now i root 0 c.loop-root-test.true refl in
     record {
-      walk = c.in_ok-visit_root.ensures.walk;
-      stack = c.in_ok-visit_root.ensures.stack;
+      walk = c.in_ok-visit_root.ensures.visit.walk;
+      stack = c.in_ok-visit_root.ensures.visit.empty;
       met = λ k a less got. below_more (λ k. (a : ℕ) → slice_get c.args.roots.now k ≡ Some a → IsMet c.visit_root.new.marks.items a) i
-          (λ k less a got. c.in_ok-visit_root.ensures.met a (c.loop-root.invariant.met k a less got))
-          (λ a got. let same : root ≡ a = cc in rw (← same) c.in_ok-visit_root.ensures.root)
+          (λ k less a got. c.in_ok-visit_root.ensures.visit.met a (c.loop-root.invariant.met k a less got))
+          (λ a got. let same : root ≡ a = cc in rw (← same) c.in_ok-visit_root.ensures.visit.here)
           k less a got;
-      only = c.in_ok-visit_root.ensures.only c.args.roots.now (i, here) c.loop-root.invariant.only;
+      only = c.in_ok-visit_root.ensures.visit.only c.args.roots.now (i, here) c.loop-root.invariant.only;
     }
 
 pub returns-clause-arranged : goal.returns-clause-arranged

@@ -1,7 +1,7 @@
 use Rattle.std.proofs.Common.{inl, arith, length}
 use Rattle.std.proofs.lemmas.Option.{slice_get_within}
 use Rattle.graph_core.specs.declared.walk.Mark.TheVariants.{Unseen, Open, Done}
-use Rattle.graph_core.proofs.WalkLemmas.{begun, finished, starts_alone, met_set, met_here, reached_set}
+use Rattle.graph_core.proofs.WalkLemmas.{begun, starts_alone, met_set, met_here, reached_set, visit_done}
 use Rattle.graph_core.proofs.walk.visit.Goals as goal
 
 pub edges-requires : goal.edges-requires
@@ -10,17 +10,8 @@ edges-requires c = omega (arith, slice_get_within c.args.marks.now.items c.args.
 pub leave-requires : goal.leave-requires
 leave-requires c = slice_get_within c.args.marks.now.items c.args.root Unseen c.requires.root
 
-pub returns-then-are_done-clause-walk : goal.returns-then-are_done-clause-walk
-returns-then-are_done-clause-walk c = rw (c.in_ok-leave.ensures.marks, c.in_ok-leave.ensures.order) (finished c.args.graph.now c.args.marks.now.items c.args.order.now.items c.args.root c.requires.walk c.requires.root (rw (← c.edges.ensures.edges, ← c.deref.ensures.value) (c.are_done.ensures c.if-are_done.true)))
-
-pub returns-then-are_done-clause-met : goal.returns-then-are_done-clause-met
-returns-then-are_done-clause-met c = rw c.in_ok-leave.ensures.marks (met_set c.args.marks.now.items c.args.root Unseen (Done (length c.args.order.now.items)) c.requires.root (λ e. cc))
-
-pub returns-then-are_done-clause-root : goal.returns-then-are_done-clause-root
-returns-then-are_done-clause-root c = rw c.in_ok-leave.ensures.marks (met_here c.args.marks.now.items c.args.root Unseen (Done (length c.args.order.now.items)) c.requires.root (λ e. cc))
-
-pub returns-then-are_done-clause-only : goal.returns-then-are_done-clause-only
-returns-then-are_done-clause-only c = λ roots has reached. rw c.in_ok-leave.ensures.marks (reached_set c.args.graph.now roots c.args.marks.now.items c.args.root (Done (length c.args.order.now.items)) (inl has) reached)
+pub returns-then-are_done-clause-visit : goal.returns-then-are_done-clause-visit
+returns-then-are_done-clause-visit c = rw (c.in_ok-leave.ensures.marks, c.in_ok-leave.ensures.order) (visit_done c.args.graph.now c.args.marks.now.items c.args.stack.now.items c.args.order.now.items c.args.root c.requires.walk c.requires.stack c.requires.root (rw (← c.edges.ensures.edges, ← c.deref.ensures.value) (c.are_done.ensures c.if-are_done.true)))
 
 pub loop-frame-init : goal.loop-frame-init
 loop-frame-init c =
@@ -34,10 +25,11 @@ loop-frame-init c =
 
 pub loop-frame-preserved : goal.loop-frame-preserved
 loop-frame-preserved c =
+    let step = c.in_ok-step.ensures.step in
     record {
-      walk = c.in_ok-step.ensures.walk;
-      starts = c.in_ok-step.ensures.first c.args.root (rw c.in-Some.ensures.items at c.loop-frame.invariant.starts);
-      met = λ point met. c.in_ok-step.ensures.met point (c.loop-frame.invariant.met point met);
-      root = c.in_ok-step.ensures.met c.args.root c.loop-frame.invariant.root;
-      only = λ roots has reached. c.in_ok-step.ensures.only roots (c.loop-frame.invariant.only roots has reached);
+      walk = step.walk;
+      starts = step.first c.args.root (rw c.in-Some.ensures.items at c.loop-frame.invariant.starts);
+      met = λ point met. step.met point (c.loop-frame.invariant.met point met);
+      root = step.met c.args.root c.loop-frame.invariant.root;
+      only = λ roots has reached. step.only roots (c.loop-frame.invariant.only roots has reached);
     }
