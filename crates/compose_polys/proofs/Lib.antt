@@ -12,3 +12,4 @@ pub mod WiredLemmas
 pub mod PointLemmas
 pub mod ComposedLemmas
 pub mod OrderedLemmas
+pub mod GraphLemmas

@@ -64,9 +64,5 @@ pub fn wired_order(alloc: Global, rows: &[Vec<Feeder>]) -> Result<Vec<u32>, Cycl
     ensures cycle { IfErr result (λ fault. IsCycleFault (graph_of (map (λ row. row.items) rows.now)) (first_numbers (length rows.now)) fault) }
 {
     let graph = feeding_graph(alloc, rows)?;
-    let order = match level_order(alloc, &graph) {
-        Ok(order) => order,
-        Err(fault) => return Err(fault),
-    };
-    Ok(order)
+    level_order(alloc, &graph)
 }

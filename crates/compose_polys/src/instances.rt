@@ -45,8 +45,7 @@ fn one_instance<F: Field>(
     ensures fault { IfErr result (IsInstanceRefusal (F.degree field.now) (F.product field.now) (feed_polys words.now polys.now feeds.now) instance block.now.terms bound) }
 {
     let list = polys_of(alloc, words, polys, feeds)?;
-    let poly = instance_poly(alloc, field, instance, block, &list, bound)?;
-    Ok(poly)
+    instance_poly(alloc, field, instance, block, &list, bound)
 }
 
 /// The polynomials of the instances of a top by their numbers, or the first stage over the bound.

@@ -45,8 +45,7 @@ fn order_by(alloc: Global, levels: &[u32]) -> Result<Vec<u32>, AllocError>
 {
     let mut keys = keys(alloc, levels)?;
     keys.sort_unstable();
-    let order = seconds(alloc, &keys)?;
-    Ok(order)
+    seconds(alloc, &keys)
 }
 
 /// All points of a graph by rising level and then by rising number. A point has level 1 if it leads nowhere, and else one

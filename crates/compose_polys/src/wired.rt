@@ -1,5 +1,5 @@
 //! The polynomial of a wired top.
-ghost use Rattle.std.specs.Prelude.{◌<◌, IfErr, IfOk, length};
+ghost use Rattle.std.specs.Prelude.{◌≡◌, ◌<◌, IfErr, IfOk, length};
 ghost use Rattle.compose_polys.specs.Instance.{AreReduced, HasValuesOf};
 ghost use Rattle.compose_model.specs.Wiring.{feeding_graph as graph_of, rows_in};
 ghost use Rattle.compose_polys.specs.LevelOrder.{IsLevelOrder};
@@ -12,7 +12,7 @@ use crate::words::word_polys;
 use compose_model::Feeder;
 use gf_field::Field;
 use poly_mixed::{Poly, ReduceFault};
-use std::alloc::{AllocError, Global};
+use std::alloc::Global;
 
 // A polynomial that has the values of a feed's.
 fn copied<F: Field>(
@@ -21,11 +21,12 @@ fn copied<F: Field>(
     words: &[Poly],
     polys: &[Poly],
     feed: Feeder,
-) -> Result<Poly, AllocError>
+) -> Result<Poly, ReduceFault>
     requires among { IsFeedAmong (length words.now) (length polys.now) feed }
     requires words { AreReduced (F.degree field.now) (terms_of words.now) }
     requires polys { AreReduced (F.degree field.now) (terms_of polys.now) }
-    ensures { IfOk result (λ q. HasValuesOf (F.degree field.now) (F.product field.now) (feed_terms (terms_of words.now) (terms_of polys.now) feed) q.terms) }
+    ensures values { IfOk result (λ q. HasValuesOf (F.degree field.now) (F.product field.now) (feed_terms (terms_of words.now) (terms_of polys.now) feed) q.terms) }
+    ensures fault { IfErr result (λ fault. fault ≡ ReduceFault.OutOfMemory) }
 {
     let poly = poly_of(words, polys, feed);
     let mut copy = Poly::zero(alloc);
@@ -54,10 +55,8 @@ pub fn wired_poly<F: Field>(
     ensures fault { IfErr result (IsStageFault (F.degree field.now) (F.product field.now) count (borrowed_terms blocks.now) (rows_in rows.now) bound) }
 {
     let words = word_polys(alloc, field, count)?;
-    let polys = match instance_polys(alloc, field, &words, blocks, rows, order, bound) {
-        Ok(polys) => polys,
-        Err(fault) => return Err(fault),
-    };
-    let poly = copied(alloc, field, &words, &polys, output)?;
-    Ok(poly)
+    match instance_polys(alloc, field, &words, blocks, rows, order, bound) {
+        Ok(polys) => copied(alloc, field, &words, &polys, output),
+        Err(fault) => Err(fault),
+    }
 }

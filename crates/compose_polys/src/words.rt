@@ -12,8 +12,7 @@ fn word_poly<F: Field>(alloc: Global, field: &F, word: usize) -> Result<Poly, Al
     requires { word < 8 }
     ensures { IfOk result (λ q. IsPolynomialOf (F.degree field.now) (F.product field.now) (λ p. slice_index p.words word) q.terms) }
 {
-    let poly = scaled_power(alloc, field, 1, word, 1)?;
-    Ok(poly)
+    scaled_power(alloc, field, 1, word, 1)
 }
 
 /// The polynomials of the first words, at most eight: each is the word itself.

@@ -1,3 +1,4 @@
+use Rattle.std.proofs.lemmas.Result.{IfOk-weaker}
 use Rattle.gf_field.specs.laws.PowerLaws.{one_below}
 use Rattle.compose_polys.proofs.FeedLemmas.{word_itself}
 use Rattle.compose_polys.proofs.words.word_poly.Goals as goal
@@ -9,4 +10,4 @@ pub scaled_power-requires-clause-exponent : goal.scaled_power-requires-clause-ex
 scaled_power-requires-clause-exponent g c = one_below (g.F.Ring.degree c.args.field.now) (g.F.Ring.product c.args.field.now) (g.met.F.Ring.laws c.args.field.now)
 
 pub returns : goal.returns
-returns g c = word_itself (g.F.Ring.degree c.args.field.now) (g.F.Ring.product c.args.field.now) c.args.word c.in_ok-poly.poly.terms (g.met.F.Ring.laws c.args.field.now) c.requires c.in_ok-poly.ensures
+returns g c = IfOk-weaker c.scaled_power.result _ _ (λ poly is. word_itself (g.F.Ring.degree c.args.field.now) (g.F.Ring.product c.args.field.now) c.args.word poly.terms (g.met.F.Ring.laws c.args.field.now) c.requires is) c.scaled_power.ensures
