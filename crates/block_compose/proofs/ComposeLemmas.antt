@@ -6,6 +6,7 @@ use Rattle.lists.specs.laws.HasLaws.{all_from}
 use Rattle.lists.specs.laws.ListLaws.{length_map as mapped_long}
 use Rattle.lists.specs.laws.ReadLaws.{get_below, mapped_at}
 use Rattle.outcome.specs.ForEach.{AreValues}
+use Rattle.outcome.specs.Outcome.{Outcome}
 use Rattle.graph_core.specs.Arranged.{IsArranged}
 use Rattle.graph_core.specs.Cycle.{IsCycleOf}
 use Rattle.graph_core.specs.Graph.{Graph, IsCycle}
@@ -63,6 +64,7 @@ use Rattle.compose_stages.proofs.UsedLemmas.{block_over, blocks_within}
 use Rattle.block_compose.specs.Composed.{fault_of_plan, fault_of_wiring, hierarchy_of, refusal, Composes, HasNoCycle, IsBlockOver, IsComposed, MayFault, StagesOf}
 use Rattle.block_compose.specs.declared.fault.ComposeFault.{ComposeFault}
 use Rattle.block_compose.specs.private.Blocks.{block_fault_of, instance_fault_of, ArePolys, HasPoly, IsBlockPoly, IsFirstBlockOver}
+use Rattle.block_compose.specs.private.Planned.{ComposesPlanned}
 use Rattle.block_compose.proofs.GivenLemmas.{have_blocks}
 use Rattle.block_compose.proofs.StageLemmas.{number_at, one_kept, wired_output}
 use Rattle.compose_stages.proofs.OrderLemmas.{graph_long}
@@ -129,25 +131,34 @@ module _ (k : ℕ) (mul : ℕ → ℕ → ℕ) (design : List ModelValue) (signa
   abbrev Whole : ComposeFault → Type 0
   Whole = MayFault (Composes k mul design signature bases bound)
 
+  abbrev Rest : Outcome ComposeFault Terms
+  Rest = ComposesPlanned k mul h bound
+
   pub plan_refused : (fault : PlanFault) → planned.MayFault (UsesOf design signature) fault → Whole (fault_of_plan fault)
   plan_refused plans.OutOfMemory is = tt
   plan_refused fault is = inl (fault, is, refl)
 
   module _ (uses : List BlockUse) (are : UsesOf design signature (Ok uses)) where
-    pub wiring_refused : (fault : WiringFault) → IsWiringFault h fault → Whole (fault_of_wiring fault)
-    wiring_refused wirings.OutOfMemory is = tt
-    wiring_refused fault is = inr (uses, are, inl (fault, is, refl))
+    pub planned_refused : (fault : ComposeFault) → MayFault Rest fault → Whole fault
+    planned_refused fault may = lifted Rest (Composes k mul design signature bases bound) (λ e is. inr (uses, are, is)) (refusal fault) may
 
-    module _ (rows : List (List Feeder)) (output : Feeder) (wired : AreWired h rows output) where
-      pub cycle_refused : (fault : ComposeFault) → MayFault (HasNoCycle rows) fault → Whole fault
-      cycle_refused fault may = lifted (HasNoCycle rows) (Composes k mul design signature bases bound) (λ e is. inr (uses, are, inr ((rows, output), wired, inl is))) (refusal fault) may
+    pub composed : (ts : Terms) → Rest (Ok ts) → Composes k mul design signature bases bound (Ok ts)
+    composed ts is = (uses, are, is)
 
-      module _ (free : IsWithoutCycle rows) where
-        pub stage_refused : (fault : ComposeFault) → MayFault (StagesOf k mul h rows bound) fault → Whole fault
-        stage_refused fault may = lifted (StagesOf k mul h rows bound) (Composes k mul design signature bases bound) (λ e is. inr (uses, are, inr ((rows, output), wired, inr (tt, free, is)))) (refusal fault) may
+  pub wiring_refused : (fault : WiringFault) → IsWiringFault h fault → MayFault Rest (fault_of_wiring fault)
+  wiring_refused wirings.OutOfMemory is = tt
+  wiring_refused fault is = inl (fault, is, refl)
 
-        pub composed : (ts : Terms) → StagesOf k mul h rows bound (Ok ts) → Composes k mul design signature bases bound (Ok ts)
-        composed ts is = (uses, are, ((rows, output), wired, (tt, free, is)))
+  module _ (rows : List (List Feeder)) (output : Feeder) (wired : AreWired h rows output) where
+    pub cycle_refused : (fault : ComposeFault) → MayFault (HasNoCycle rows) fault → MayFault Rest fault
+    cycle_refused fault may = lifted (HasNoCycle rows) Rest (λ e is. inr ((rows, output), wired, inl is)) (refusal fault) may
+
+    module _ (free : IsWithoutCycle rows) where
+      pub stage_refused : (fault : ComposeFault) → MayFault (StagesOf k mul h rows bound) fault → MayFault Rest fault
+      stage_refused fault may = lifted (StagesOf k mul h rows bound) Rest (λ e is. inr ((rows, output), wired, inr (tt, free, is))) (refusal fault) may
+
+      pub planned_composed : (ts : Terms) → StagesOf k mul h rows bound (Ok ts) → Rest (Ok ts)
+      planned_composed ts is = ((rows, output), wired, (tt, free, is))
 
 -- ---- the stages
 

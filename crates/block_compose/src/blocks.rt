@@ -135,7 +135,10 @@ pub(crate) fn block_polys<F: Field>(
     ensures all { IfOk result (λ polys. (i number : ℕ) → slice_get numbers.now i ≡ Some number → HasPoly polys.items number) }
     ensures fault { IfErr result (IsFirstRefused (F.degree field.now) (F.product field.now) blocks.now circuits.now (bases_in bases.now) bound numbers.now) }
 {
-    let mut polys = no_polys(alloc, blocks.len())?;
+    let Ok(none) = no_polys(alloc, blocks.len()) else {
+        return Err(ComposeFault::OutOfMemory);
+    };
+    let mut polys = none;
     for i in 0..numbers.len() {
         match add_poly(
             alloc, field, blocks, circuits, bases, numbers[i], bound, &mut polys,
@@ -162,7 +165,9 @@ fn poly_at(polys: &[Option<Poly>], number: usize) -> &Poly
 fn add_one<'a>(list: &mut Vec<&'a Poly>, poly: &'a Poly) -> Result<(), AllocError>
     ensures { OnOk result (map (λ q. q.now) list.new.items ≡ map (λ q. q.now) list.old.items ++ poly.now ∷ []) }
 {
-    list.push(poly)?;
+    let Ok(()) = list.push(poly) else {
+        return Err(AllocError);
+    };
     Ok(())
 }
 
@@ -177,7 +182,9 @@ pub(crate) fn polys_of<'a>(
 {
     let mut list = Vec::new(alloc);
     for i in 0..numbers.len() {
-        add_one(&mut list, poly_at(polys, numbers[i] as usize))?;
+        let Ok(()) = add_one(&mut list, poly_at(polys, numbers[i] as usize)) else {
+            return Err(AllocError);
+        };
     }
     Ok(list)
 }

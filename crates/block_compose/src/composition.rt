@@ -1,18 +1,60 @@
 //! The polynomial of a top of instances.
-ghost use Rattle.std.specs.Prelude.{IfErr, IfOk, Ok};
-ghost use Rattle.block_compose.specs.Composed.{Composes, IsComposable, MayFault};
+ghost use Rattle.std.specs.Prelude.{◌<◌, ◌^◌, length, IfErr, IfOk, Ok};
+ghost use Rattle.net_blif.specs.Models.{AreRight};
+ghost use Rattle.net_blif.specs.Top.{instances_of};
+ghost use Rattle.compose_blocks.specs.Planned.{IsPlanned};
+ghost use Rattle.block_compose.specs.Composed.{bases_in, hierarchy_of, Composes, IsComposable, MayFault};
+ghost use Rattle.block_compose.specs.private.Planned.{ComposesPlanned};
 
 use crate::faults::{of_cycle, of_plan, of_wiring};
 use crate::stages::compose_stages;
 use crate::{BlockBases, ComposeFault};
-use compose_blocks::plan_blocks;
+use compose_blocks::{BlockPlan, plan_blocks};
 use compose_polys::wired_order;
 use compose_wiring::wiring_of;
+use gf_basis::Basis;
 use gf_field::Field;
 use net_blif::Design;
 use net_signature::Signature;
 use poly_mixed::Poly;
 use std::alloc::Global;
+
+// The polynomial of a top whose instances have their blocks, or the first reason why there is none.
+fn compose_planned<F: Field>(
+    alloc: Global,
+    field: &F,
+    design: &Design,
+    signature: &Signature,
+    bases: &[Vec<Basis>],
+    plan: &BlockPlan,
+    bound: u32,
+) -> Result<Poly, ComposeFault>
+    requires given { IsComposable (F.degree field.now) (F.product field.now) design.now signature.now (bases_in bases.now) }
+    requires right { AreRight design.now (Ok tt) }
+    requires few { length (instances_of design.now) < 2 ^ 32 }
+    requires planned { IsPlanned design.now signature.now plan.now.numbers.items plan.now.circuits.items }
+    ensures poly { IfOk result (λ poly. ComposesPlanned (F.degree field.now) (F.product field.now) (hierarchy_of design.now signature.now (bases_in bases.now)) bound (Ok poly.terms)) }
+    ensures fault { IfErr result (MayFault (ComposesPlanned (F.degree field.now) (F.product field.now) (hierarchy_of design.now signature.now (bases_in bases.now)) bound)) }
+{
+    let wiring = match wiring_of(
+        alloc,
+        design,
+        signature.words(),
+        signature.blocks(),
+        bases,
+        &plan.numbers,
+    ) {
+        Ok(wiring) => wiring,
+        Err(fault) => return Err(of_wiring(fault)),
+    };
+    let order = match wired_order(alloc, &wiring.rows) {
+        Ok(order) => order,
+        Err(fault) => return Err(of_cycle(&wiring.rows, fault)),
+    };
+    compose_stages(
+        alloc, field, design, signature, bases, plan, &wiring, &order, bound,
+    )
+}
 
 /// The polynomial in words of what a top computes that only wires instances of blocks, or the first reason why there is none, in this
 /// order.
@@ -48,27 +90,5 @@ pub fn compose<F: Field>(
         Ok(plan) => plan,
         Err(fault) => return Err(of_plan(fault)),
     };
-    let lists = bases.lists();
-    let wiring = match wiring_of(
-        alloc,
-        design,
-        signature.words(),
-        signature.blocks(),
-        lists,
-        &plan.numbers,
-    ) {
-        Ok(wiring) => wiring,
-        Err(fault) => return Err(of_wiring(fault)),
-    };
-    let order = match wired_order(alloc, &wiring.rows) {
-        Ok(order) => order,
-        Err(fault) => return Err(of_cycle(&wiring.rows, fault)),
-    };
-    let poly = match compose_stages(
-        alloc, field, design, signature, lists, &plan, &wiring, &order, bound,
-    ) {
-        Ok(poly) => poly,
-        Err(fault) => return Err(fault),
-    };
-    Ok(poly)
+    compose_planned(alloc, field, design, signature, bases.lists(), &plan, bound)
 }

@@ -1,10 +1,6 @@
 //! Faults of compositions.
-ghost use Rattle.std.specs.Prelude.{◌≡◌};
-ghost use Rattle.block_compose.specs.declared.fault.ComposeFault.TheVariants.{OutOfMemory};
-
 use net_core::Name;
 use poly_mixed::Stage;
-use std::alloc::{AllocError, AllocFailed};
 use thiserror::Error;
 
 /// Why a top has no polynomial by words. Instances count from 1, in the order of the lines.
@@ -63,20 +59,4 @@ pub enum ComposeFault {
     /// Out of memory, in whichever step.
     #[error("out of memory")]
     OutOfMemory,
-}
-
-impl From<AllocError> for ComposeFault {
-    ghost from_gives = { λ _ e. e ≡ OutOfMemory };
-
-    fn from(_error: AllocError) -> ComposeFault {
-        ComposeFault::OutOfMemory
-    }
-}
-
-impl<T: Drop> From<AllocFailed<T>> for ComposeFault {
-    ghost from_gives = { λ _ e. e ≡ OutOfMemory };
-
-    fn from(_error: AllocFailed<T>) -> ComposeFault {
-        ComposeFault::OutOfMemory
-    }
 }

@@ -54,7 +54,9 @@ pub(crate) fn compose_stages<F: Field>(
         Ok(polys) => polys,
         Err(fault) => return Err(fault),
     };
-    let list = polys_of(alloc, &polys, &plan.numbers)?;
+    let Ok(list) = polys_of(alloc, &polys, &plan.numbers) else {
+        return Err(ComposeFault::OutOfMemory);
+    };
     // all words but the output word
     let count = signature.words().len() - 1;
     match wired_poly(

@@ -7,6 +7,28 @@ use Rattle.block_compose.specs.private.Blocks.{ArePolys, HasPoly, KeepsPolys}
 use Rattle.block_compose.proofs.BlockLemmas.{has_more, keeps_more, poly_more}
 use Rattle.block_compose.proofs.blocks.add_poly.Goals as goal
 
+pub index-requires : goal.index-requires
+index-requires g c =
+    let kept = c.requires.kept.2 in
+    omega (arith, c.requires.polys.long, slice_get_within c.args.blocks.now c.args.number kept.block kept.found)
+
+pub block_poly-requires-clause-kept : goal.block_poly-requires-clause-kept
+block_poly-requires-clause-kept g c = c.requires.kept
+
+pub put_poly-requires : goal.put_poly-requires
+put_poly-requires g c =
+    let kept = c.requires.kept.2 in
+    omega (arith, c.requires.polys.long, slice_get_within c.args.blocks.now c.args.number kept.block kept.found)
+
+pub returns-then-is_some-clause-polys : goal.returns-then-is_some-clause-polys
+returns-then-is_some-clause-polys g c = c.requires.polys
+
+pub returns-then-is_some-clause-keeps : goal.returns-then-is_some-clause-keeps
+returns-then-is_some-clause-keeps g c = λ number poly got. got
+
+pub returns-in-Err-clause-fault : goal.returns-in-Err-clause-fault
+returns-in-Err-clause-fault g c = c.in-Err.ensures.fault
+
 pub returns-then-is_some-clause-has : goal.returns-then-is_some-clause-has
 returns-then-is_some-clause-has g c =
     let kept = c.requires.kept.2 in

@@ -10,7 +10,7 @@ loop-i-init g c =
     let mul : ℕ → ℕ → ℕ = g.F.Ring.product c.args.field.now in
     let bases : List (List Basis) = map (λ list. list.items) c.args.bases.now in
     record {
-      are = no_polys k mul c.args.blocks.now c.args.circuits.now bases c.args.bound c.in_ok-polys.polys.items c.in_ok-polys.ensures;
+      are = no_polys k mul c.args.blocks.now c.args.circuits.now bases c.args.bound c.in-Ok.none.items c.in-Ok.ensures;
       done = λ j number less got. absurd (omega (arith, less));
     }
 
@@ -28,8 +28,8 @@ returns-in-Err-clause-fault g c =
 pub loop-i-preserved : goal.loop-i-preserved
 loop-i-preserved g c =
     record {
-      are = c.in-Ok.ensures.polys;
-      done = done_more c.args.numbers.now c.loop-i.i (get_or c.args.numbers.now c.loop-i.i 0) c.loop-i.polys.items c.add_poly.new.polys.items (slice_get-get_or c.args.numbers.now c.loop-i.i 0 c.loop-i-test.true) c.in-Ok.ensures.keeps c.loop-i.invariant.done c.in-Ok.ensures.has;
+      are = c.in-Ok-add_poly.ensures.polys;
+      done = done_more c.args.numbers.now c.loop-i.i (get_or c.args.numbers.now c.loop-i.i 0) c.loop-i.polys.items c.add_poly.new.polys.items (slice_get-get_or c.args.numbers.now c.loop-i.i 0 c.loop-i-test.true) c.in-Ok-add_poly.ensures.keeps c.loop-i.invariant.done c.in-Ok-add_poly.ensures.has;
     }
 
 pub returns-clause-all : goal.returns-clause-all

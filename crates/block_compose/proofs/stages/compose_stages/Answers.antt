@@ -1,4 +1,4 @@
-use Rattle.std.proofs.Common.{◌≡◌, ◌⊎◌, ◌∙◌, ◌-◌, ap, sym, subst, ℕ, List, Option, Some, length, map}
+use Rattle.std.proofs.Common.{◌≡◌, ◌⊎◌, ◌∙◌, ◌-◌, ap, sym, subst, ℕ, Global, List, Option, Some, Vec, length, map, arith}
 use Rattle.std.specs.Prelude.{slice_get}
 use Rattle.net_words.specs.Binding.{BoundNet}
 use Rattle.net_words.specs.declared.word.WordText.{WordText}
@@ -8,6 +8,8 @@ use Rattle.net_blif.specs.Design.{ModelValue}
 use Rattle.gf_basis.specs.declared.bases.Basis.{Basis}
 use Rattle.poly_mixed.specs.Polynomial.{Polynomial, Terms}
 use Rattle.compose_model.specs.declared.feeder.Feeder.{Feeder}
+use Rattle.compose_model.specs.Wiring.{feeding_graph}
+use Rattle.compose_polys.specs.LevelOrder.{IsLevelOrder}
 use Rattle.compose_polys.specs.Wired.{IsStageFault, IsWired, IsWiredPoly}
 use Rattle.block_compose.specs.Composed.{hierarchy_of, MayFault, StagesOf}
 use Rattle.block_compose.specs.declared.fault.ComposeFault.{ComposeFault}
@@ -50,6 +52,19 @@ returns-in-Err-clause-fault g c =
     let C : List ℕ → Type 0 = λ ns. (c.in-Err.fault ≡ OutOfMemory) ⊎ IsFirstBlockOver k mul signature.blocks circuits bases c.args.bound ns c.in-Err.fault in
     block_fault k mul ring free design signature bases numbers circuits rows c.args.wiring.now.output c.args.bound c.requires.given c.requires.planned c.requires.right c.in-Err.fault (subst C c.deref-2.ensures.value (subst B c.deref.ensures.value (subst A c.blocks-2.ensures c.in-Err.ensures.fault)))
 
+pub polys_of-requires : goal.polys_of-requires
+polys_of-requires g c = λ i number got.
+    let P : List (Option Polynomial) → Type 0 = λ ps. HasPoly ps number in
+    subst P (sym c.deref-3.ensures.value) (c.in-Ok.ensures.all i number (ap (λ (ns : List ℕ). slice_get ns i) (c.deref-2.ensures.value ∙ sym c.deref-4.ensures.value) ∙ got))
+
+pub overflow_sub-count : goal.overflow_sub-count
+overflow_sub-count g c = omega (arith, ap length c.words.ensures, c.requires.given.words_are.one)
+
+pub wired_poly-requires-clause-order : goal.wired_poly-requires-clause-order
+wired_poly-requires-clause-order g c =
+    let P : List (Vec Feeder Global) → Type 0 = λ rows. IsLevelOrder (feeding_graph (map (λ row. row.items) rows)) c.args.order.now in
+    subst P (sym c.deref-6.ensures.value) c.requires.order
+
 pub wired_poly-requires-clause-wired : goal.wired_poly-requires-clause-wired
 wired_poly-requires-clause-wired g c =
     let k : ℕ = g.F.Ring.degree c.args.field.now in
@@ -68,13 +83,13 @@ wired_poly-requires-clause-wired g c =
     let are = subst B c.deref.ensures.value (subst A c.blocks-2.ensures c.in-Ok.ensures.polys) in
     let H : List ℕ → Type 0 = λ ns. (i number : ℕ) → slice_get ns i ≡ Some number → HasPoly polys number in
     let has = subst H c.deref-2.ensures.value c.in-Ok.ensures.all in
-    let list : List Polynomial = map (λ q. q.now) c.in_ok-list.list.items in
+    let list : List Polynomial = map (λ q. q.now) c.in-Ok-polys_of.list.items in
     let T : List (Option Polynomial) → Type 0 = λ ps. AreTaken ps c.deref-4.result.now list in
     let U : List ℕ → Type 0 = λ ns. AreTaken polys ns list in
-    let taken = subst U c.deref-4.ensures.value (subst T c.deref-3.ensures.value c.in_ok-list.ensures) in
+    let taken = subst U c.deref-4.ensures.value (subst T c.deref-3.ensures.value c.in-Ok-polys_of.ensures) in
     let count : ℕ = length c.words.result.now - 1 in
     let count_is : count ≡ length signature.words - 1 = ap (λ (ws : List WordText). length ws - 1) c.words.ensures in
-    let same_terms : map (λ f. f.now.terms) c.deref-5.result.now ≡ map (λ (q : Polynomial). q.terms) list = ap (λ fs. map (λ f. f.now.terms) fs) c.deref-5.ensures.value ∙ terms_of (λ f. f.now) c.in_ok-list.list.items in
+    let same_terms : map (λ f. f.now.terms) c.deref-5.result.now ≡ map (λ (q : Polynomial). q.terms) list = ap (λ fs. map (λ f. f.now.terms) fs) c.deref-5.ensures.value ∙ terms_of (λ f. f.now) c.in-Ok-polys_of.list.items in
     let blocks : List Terms = map (λ (q : Polynomial). q.terms) list in
     let rows_same : map (λ row. row.items) c.deref-6.result.now ≡ rows = ap (λ rs. map (λ row. row.items) rs) c.deref-6.ensures.value in
     let P : List Terms → Type 0 = λ ts. IsWired k count ts (map (λ row. row.items) c.deref-6.result.now) c.args.wiring.now.output in
@@ -99,13 +114,13 @@ returns-in-Ok-wired_poly-clause-poly g c =
     let are = subst B c.deref.ensures.value (subst A c.blocks-2.ensures c.in-Ok.ensures.polys) in
     let H : List ℕ → Type 0 = λ ns. (i number : ℕ) → slice_get ns i ≡ Some number → HasPoly polys number in
     let has = subst H c.deref-2.ensures.value c.in-Ok.ensures.all in
-    let list : List Polynomial = map (λ q. q.now) c.in_ok-list.list.items in
+    let list : List Polynomial = map (λ q. q.now) c.in-Ok-polys_of.list.items in
     let T : List (Option Polynomial) → Type 0 = λ ps. AreTaken ps c.deref-4.result.now list in
     let U : List ℕ → Type 0 = λ ns. AreTaken polys ns list in
-    let taken = subst U c.deref-4.ensures.value (subst T c.deref-3.ensures.value c.in_ok-list.ensures) in
+    let taken = subst U c.deref-4.ensures.value (subst T c.deref-3.ensures.value c.in-Ok-polys_of.ensures) in
     let count : ℕ = length c.words.result.now - 1 in
     let count_is : count ≡ length signature.words - 1 = ap (λ (ws : List WordText). length ws - 1) c.words.ensures in
-    let same_terms : map (λ f. f.now.terms) c.deref-5.result.now ≡ map (λ (q : Polynomial). q.terms) list = ap (λ fs. map (λ f. f.now.terms) fs) c.deref-5.ensures.value ∙ terms_of (λ f. f.now) c.in_ok-list.list.items in
+    let same_terms : map (λ f. f.now.terms) c.deref-5.result.now ≡ map (λ (q : Polynomial). q.terms) list = ap (λ fs. map (λ f. f.now.terms) fs) c.deref-5.ensures.value ∙ terms_of (λ f. f.now) c.in-Ok-polys_of.list.items in
     let blocks : List Terms = map (λ (q : Polynomial). q.terms) list in
     let rows_same : map (λ row. row.items) c.deref-6.result.now ≡ rows = ap (λ rs. map (λ row. row.items) rs) c.deref-6.ensures.value in
     let P : List Terms → Type 0 = λ ts. IsWiredPoly k mul count ts (map (λ row. row.items) c.deref-6.result.now) c.args.bound c.args.wiring.now.output c.in-Ok-wired_poly.poly.terms in
@@ -130,13 +145,13 @@ returns-clause-fault g c =
     let are = subst B c.deref.ensures.value (subst A c.blocks-2.ensures c.in-Ok.ensures.polys) in
     let H : List ℕ → Type 0 = λ ns. (i number : ℕ) → slice_get ns i ≡ Some number → HasPoly polys number in
     let has = subst H c.deref-2.ensures.value c.in-Ok.ensures.all in
-    let list : List Polynomial = map (λ q. q.now) c.in_ok-list.list.items in
+    let list : List Polynomial = map (λ q. q.now) c.in-Ok-polys_of.list.items in
     let T : List (Option Polynomial) → Type 0 = λ ps. AreTaken ps c.deref-4.result.now list in
     let U : List ℕ → Type 0 = λ ns. AreTaken polys ns list in
-    let taken = subst U c.deref-4.ensures.value (subst T c.deref-3.ensures.value c.in_ok-list.ensures) in
+    let taken = subst U c.deref-4.ensures.value (subst T c.deref-3.ensures.value c.in-Ok-polys_of.ensures) in
     let count : ℕ = length c.words.result.now - 1 in
     let count_is : count ≡ length signature.words - 1 = ap (λ (ws : List WordText). length ws - 1) c.words.ensures in
-    let same_terms : map (λ f. f.now.terms) c.deref-5.result.now ≡ map (λ (q : Polynomial). q.terms) list = ap (λ fs. map (λ f. f.now.terms) fs) c.deref-5.ensures.value ∙ terms_of (λ f. f.now) c.in_ok-list.list.items in
+    let same_terms : map (λ f. f.now.terms) c.deref-5.result.now ≡ map (λ (q : Polynomial). q.terms) list = ap (λ fs. map (λ f. f.now.terms) fs) c.deref-5.ensures.value ∙ terms_of (λ f. f.now) c.in-Ok-polys_of.list.items in
     let blocks : List Terms = map (λ (q : Polynomial). q.terms) list in
     let rows_same : map (λ row. row.items) c.deref-6.result.now ≡ rows = ap (λ rs. map (λ row. row.items) rs) c.deref-6.ensures.value in
     let P : List Terms → Type 0 = λ ts. IsStageFault k mul count ts (map (λ row. row.items) c.deref-6.result.now) c.args.bound c.in-Err-wired_poly.fault in
