@@ -20,3 +20,4 @@ pub mod RunLemmas
 pub mod RefusalLemmas
 pub mod OtherRefusalLemmas
 pub mod RepliesExist
+pub mod ToldLemmas

@@ -1,7 +1,8 @@
 //! The answer to the words, and its text written whole.
-ghost use Rattle.std.specs.Prelude.{◌≡◌, ◌⊎◌, ◌≤◌, map, string_bytes, IfOk, IsErrOf};
+ghost use Rattle.std.specs.Prelude.{◌≡◌, ◌⊎◌, ◌≤◌, map, string_bytes, IfErr, IfOk};
 ghost use Rattle.std.specs.Io.KnownBytes.{Keeps};
 ghost use Rattle.job_io.specs.Counts.{Rose};
+ghost use Rattle.job_words.specs.Fault.{fault_line, fault_status};
 ghost use Rattle.job_input.specs.Setting.{field_value, setting_value, AreSaid, IsNamedBy, IsReady};
 ghost use Rattle.gf_abs.specs.Answer.{Answer, CommandAnswer, SignedTask, TaskAnswer, TaskOver, signed_with};
 ghost use Rattle.answer_core.specs.Replies.{Replies};
@@ -126,24 +127,40 @@ fn task_answer<F: Field, S: Shelf>(
     }
 }
 
-// The status and the text that is to be written.
-fn status_and_text<S: Shelf>(
-    alloc: Global,
-    words: &[String],
-    shelf: &mut S,
-) -> Result<(u8, Vec<u8>), Stop>
+// The line of a refusal with its status, or the status of a stop of which nothing is written: 4 where the outside failed, else 5.
+fn refusal(alloc: Global, stop: &Stop) -> Result<Output, u8>
+    ensures text { IfOk result (λ r. (fault : _) × (stop.now ≡ Stop.Refused fault)
+        × (r.text.items ≡ fault_line fault) × (r.status ≡ fault_status fault)) }
+    ensures status { IfErr result (λ s. ((s ≡ 4) × (stop.now ≡ Stop.Outside)) ⊎ (s ≡ 5)) }
+{
+    match stop {
+        Stop::Refused(fault) => match write_fault(alloc, fault) {
+            Ok(text) => Ok(Output {
+                status: status_of(fault),
+                text,
+            }),
+            Err(_) => Err(5),
+        },
+        Stop::Outside => Err(4),
+        Stop::OutOfMemory => Err(5),
+    }
+}
+
+// The status and the text that is to be written, or the status with which nothing is.
+fn status_and_text<S: Shelf>(alloc: Global, words: &[String], shelf: &mut S) -> Result<Output, u8>
     ensures held { S.held shelf.new ≡ S.held shelf.old }
     ensures never_fall { (S.faults shelf.old ≤ S.faults shelf.new) × (S.misses shelf.old ≤ S.misses shelf.new) }
     ensures text { IfOk result (λ r. IsText (Answer (map string_bytes words.now) (S.held shelf.old))
-        (Rose (S.misses shelf.old) (S.misses shelf.new)) r.0 r.1.items) }
-    ensures outside { IsErrOf result Stop.Outside → Rose (S.faults shelf.old) (S.faults shelf.new) }
-    ensures stops { (fault : _) → IsErrOf result (Stop.Refused fault) → ⊥ }
+        (Rose (S.misses shelf.old) (S.misses shelf.new)) r.status r.text.items) }
+    ensures stops { IfErr result (λ s. ((s ≡ 4) × Rose (S.faults shelf.old) (S.faults shelf.new)) ⊎ (s ≡ 5)) }
 {
     match answer(alloc, words, shelf) {
-        Ok(output) => Ok((output.status, output.text)),
-        Err(Stop::Refused(fault)) => Ok((status_of(&fault), write_fault(alloc, &fault)?)),
-        Err(Stop::Outside) => Err(Stop::Outside),
-        Err(Stop::OutOfMemory) => Err(Stop::OutOfMemory),
+        Ok(output) => Ok(output),
+        Err(stop) => {
+            let refused = refusal(alloc, &stop);
+            drop(stop);
+            refused
+        }
     }
 }
 
@@ -162,11 +179,10 @@ pub fn write_answer<S: Shelf, K: Sink>(
     ensures sink_counts { K.faults sink.old ≤ K.faults sink.new }
 {
     match status_and_text(alloc, words, shelf) {
-        Ok((status, text)) => match put_all(sink, &text) {
-            Ok(()) => status,
+        Ok(output) => match put_all(sink, &output.text) {
+            Ok(()) => output.status,
             Err(_) => 4,
         },
-        Err(Stop::Outside) => 4,
-        Err(_) => 5,
+        Err(status) => status,
     }
 }
