@@ -6,3 +6,4 @@ pub mod Shelf
 pub mod Sink
 pub mod StdSink
 pub mod SureShelf
+pub mod private

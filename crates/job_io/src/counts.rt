@@ -13,5 +13,10 @@ pub fn next_count(count: u64) -> u64
 pub fn is_listed(numbers: &[u32], number: u64) -> bool
     ensures { result ≡ is_listed numbers.now number }
 {
-    numbers.iter().any(|listed| u64::from(*listed) == number)
+    for listed in numbers {
+        if u64::from(*listed) == number {
+            return true;
+        }
+    }
+    false
 }

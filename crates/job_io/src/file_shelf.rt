@@ -2,7 +2,7 @@
 ghost use Rattle.std.specs.Prelude.{◌≡◌, ◌↔◌, ◌<◌, ◌≤◌, ◌^◌, None, IfOk, IfErr, IfSome, IsErrOf, ℕ, length, vec_len};
 ghost use Rattle.job_io.specs.Shelf.{faults_after, misses_after};
 
-use crate::counts::next_count;
+use crate::shelf::count_read;
 use crate::{Shelf, ShelfFault};
 use std::alloc::Global;
 use std::io::{ErrorKind, Read};
@@ -71,11 +71,32 @@ fn read_up_to<F: Read>(alloc: Global, file: &mut F, limit: u32) -> Result<Vec<u8
             return Ok(bytes);
         }
         if taken > limit_bytes - bytes.len() {
-            break;
+            return Err(ShelfFault::TooLong { limit });
         }
-        bytes.extend_from_slice(&piece[..taken])?;
+        let Ok(()) = bytes.extend_from_slice(&piece[..taken]) else {
+            return Err(ShelfFault::OutOfMemory);
+        };
     }
     Err(ShelfFault::TooLong { limit })
+}
+
+// All the bytes of a file, unless they are more than the limit.
+fn read_file<R: Files>(
+    alloc: Global,
+    files: &R,
+    name: &str,
+    limit: u32,
+) -> Result<Vec<u8>, ShelfFault>
+    ensures within { IfOk result (λ bytes. vec_len bytes ≤ limit) }
+    ensures too_long { IfErr result (λ e. (n : ℕ) → e ≡ ShelfFault.TooLong n → n ≡ limit) }
+{
+    match fs::open(files, name) {
+        Ok(file) => {
+            let mut file = file;
+            read_up_to(alloc, &mut file, limit)
+        }
+        Err(error) => Err(fault_of(error.kind())),
+    }
 }
 
 impl<R: Files> Shelf for FileShelf<R> {
@@ -95,23 +116,8 @@ impl<R: Files> Shelf for FileShelf<R> {
         ensures within { IfOk result (λ bytes. vec_len bytes ≤ limit) }
         ensures too_long { (n : ℕ) → IsErrOf result (ShelfFault.TooLong n) → n ≡ limit }
     {
-        let fault = match fs::open(&self.files, name) {
-            Ok(file) => {
-                let mut file = file;
-                match read_up_to(alloc, &mut file, limit) {
-                    Ok(bytes) => return Ok(bytes),
-                    Err(fault) => fault,
-                }
-            }
-            Err(error) => fault_of(error.kind()),
-        };
-        match fault {
-            ShelfFault::Absent | ShelfFault::TooLong { .. } => {
-                self.misses = next_count(self.misses)
-            }
-            ShelfFault::Failed => self.faults = next_count(self.faults),
-            ShelfFault::OutOfMemory => {}
-        }
-        Err(fault)
+        let read = read_file(alloc, &self.files, name, limit);
+        count_read(&read, &mut self.faults, &mut self.misses);
+        read
     }
 }

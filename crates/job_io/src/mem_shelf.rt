@@ -6,6 +6,7 @@ ghost use Rattle.job_io.specs.Shelf.{HasMoreThan, faults_after, files_of, misses
 
 use crate::counts::{is_listed, next_count};
 use crate::pairs::read_pair;
+use crate::shelf::count_read;
 use crate::{Shelf, ShelfFault};
 use std::alloc::Global;
 
@@ -82,10 +83,9 @@ impl Shelf for MemShelf {
             → (n ≡ limit) × Rose (mem_misses self.old) (mem_misses self.new) × HasMoreThan (Some (mem_files self.old)) name.now limit }
     {
         self.reads = next_count(self.reads);
-        if is_listed(&self.failing, self.reads) {
-            self.faults = next_count(self.faults);
-            return Err(ShelfFault::Failed);
-        }
-        read_pair(alloc, &self.pairs, &mut self.misses, name, limit)
+        let fails = is_listed(&self.failing, self.reads);
+        let read = read_pair(alloc, &self.pairs, fails, name, limit);
+        count_read(&read, &mut self.faults, &mut self.misses);
+        read
     }
 }

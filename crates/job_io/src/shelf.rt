@@ -1,9 +1,10 @@
 //! Shelves of files: what each of them promises, whatever it stands on.
 ghost use Rattle.std.specs.Prelude.{◌≡◌, ◌≤◌, ◌<◌, ◌^◌, ℕ, Option, vec_len, IfOk, IsErrOf};
 ghost use Rattle.job_io.specs.Counts.{Rose};
-ghost use Rattle.job_io.specs.Shelf.{Files, Has, Lacks, HasMoreThan};
+ghost use Rattle.job_io.specs.Shelf.{Files, Has, Lacks, HasMoreThan, faults_after, misses_after};
 ghost use Rattle.job_io.specs.declared.shelf.ShelfFault.TheVariants.{OutOfMemory};
 
+use crate::counts::next_count;
 use std::alloc::{AllocError, Global};
 use thiserror::Error;
 
@@ -29,6 +30,22 @@ impl From<AllocError> for ShelfFault {
 
     fn from(_error: AllocError) -> ShelfFault {
         ShelfFault::OutOfMemory
+    }
+}
+
+/// Counts what a read gave: one fault more where it failed, one miss more where the file was absent or too long.
+pub(crate) fn count_read(read: &Result<Vec<u8>, ShelfFault>, faults: &mut u64, misses: &mut u64)
+    ensures faults { faults.new ≡ faults_after read.now faults.old }
+    ensures misses { misses.new ≡ misses_after read.now misses.old }
+    ensures counts { (faults.new < 2 ^ 64) × (misses.new < 2 ^ 64) }
+{
+    let (failed, missed) = (*faults, *misses);
+    match read {
+        Ok(_) => {}
+        Err(ShelfFault::Absent) => *misses = next_count(missed),
+        Err(ShelfFault::TooLong { .. }) => *misses = next_count(missed),
+        Err(ShelfFault::Failed) => *faults = next_count(failed),
+        Err(ShelfFault::OutOfMemory) => {}
     }
 }
 

@@ -5,6 +5,7 @@ ghost use Rattle.job_io.specs.Counts.{Rose};
 ghost use Rattle.job_io.specs.Shelf.{HasMoreThan, files_of, misses_after};
 
 use crate::pairs::read_pair;
+use crate::shelf::count_read;
 use crate::{Shelf, ShelfFault};
 use std::alloc::Global;
 
@@ -55,6 +56,9 @@ impl Shelf for SureShelf {
         ensures too_long { (n : ℕ) → IsErrOf result (ShelfFault.TooLong n)
             → (n ≡ limit) × Rose (sure_misses self.old) (sure_misses self.new) × HasMoreThan (Some (sure_files self.old)) name.now limit }
     {
-        read_pair(alloc, &self.pairs, &mut self.misses, name, limit)
+        let read = read_pair(alloc, &self.pairs, false, name, limit);
+        let mut faults = 0;
+        count_read(&read, &mut faults, &mut self.misses);
+        read
     }
 }
