@@ -42,8 +42,5 @@ pub fn last_terms<F: Field, T: Steps>(
     ensures fault { IfErr result (IsCutRefusal (setting_value (F.degree field.now) (F.product field.now) setting.now) circuit.now bound) }
 {
     let bases = setting.bases.as_slice();
-    match bits_terms(alloc, field, circuit, bases, bound, steps) {
-        Ok(terms) => Ok(terms),
-        Err(fault) => Err(fault),
-    }
+    bits_terms(alloc, field, circuit, bases, bound, steps)
 }

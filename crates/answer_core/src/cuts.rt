@@ -42,8 +42,5 @@ pub fn last_cut<F: Field, T: Steps>(
     ensures fault { IfErr result (IsCutRefusal (setting_value (F.degree field.now) (F.product field.now) setting.now) circuit.now bound) }
 {
     let bases = setting.bases.as_slice();
-    match bits_poly(alloc, field, circuit, bases, bound, steps) {
-        Ok(poly) => Ok(poly),
-        Err(fault) => Err(fault),
-    }
+    bits_poly(alloc, field, circuit, bases, bound, steps)
 }

@@ -1,6 +1,6 @@
 //! The lines of the input at which two functions are told apart.
-ghost use Rattle.std.specs.Prelude.{◌≡◌, ◌++◌, length, take, IfOk, OnOk};
-ghost use Rattle.answer_core.specs.DifferingLines.{word_line, word_lines as lines_of_words, value_line, differing_lines, difference_at};
+ghost use Rattle.std.specs.Prelude.{◌≡◌, ◌++◌, length, take, OnOk};
+ghost use Rattle.answer_core.specs.DifferingLines.{word_line, word_lines, value_line, differing_lines, difference_at};
 
 use poly_mixed::Labels;
 use std::alloc::{AllocError, Global};
@@ -19,21 +19,24 @@ pub fn add_difference(
 ) -> Result<(), AllocError>
     ensures { OnOk result (text.new.items ≡ text.old.items ++ differing_lines labels.now first.now second.now (difference_at labels.now input.now left right)) }
 {
-    let lines = word_lines(alloc, labels, input)?;
-    text.extend_from_slice(&lines)?;
+    add_words(alloc, text, labels, input)?;
     add_value(alloc, text, first, left)?;
     add_value(alloc, text, second, right)
 }
 
-// A line for each word with its element.
-fn word_lines(alloc: Global, labels: &Labels, input: &[u64; 8]) -> Result<Vec<u8>, AllocError>
-    ensures { IfOk result (λ lines. lines.items ≡ lines_of_words labels.now.words (take (length labels.now.words) input.now)) }
+// Appends a line for each word with its element.
+fn add_words(
+    alloc: Global,
+    text: &mut Vec<u8>,
+    labels: &Labels,
+    input: &[u64; 8],
+) -> Result<(), AllocError>
+    ensures { OnOk result (text.new.items ≡ text.old.items ++ word_lines labels.now.words (take (length labels.now.words) input.now)) }
 {
-    let mut lines = Vec::new(alloc);
     for word in 0..labels.words() {
-        add_word(alloc, &mut lines, labels.name(word), input[word as usize])?;
+        add_word(alloc, text, labels.name(word), input[word as usize])?;
     }
-    Ok(lines)
+    Ok(())
 }
 
 /// Appends the line of a word with its element.

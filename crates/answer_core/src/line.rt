@@ -12,10 +12,16 @@ pub fn polynomial_line(alloc: Global, poly: &Poly, labels: &Labels) -> Result<Ve
     ensures { IfOk result (λ line. line.items ≡ labels.now.output ++ (codes " = " ++ (text labels.now poly.now.terms ++ codes "\n"))) }
 {
     let polynomial = write_poly(alloc, poly, labels)?;
-    let mut line = Vec::new(alloc);
-    line.extend_from_slice(labels.output().as_bytes())?;
+    line_of(alloc, labels.output(), &polynomial)
+}
+
+// A name, ` = ` and the text of a polynomial.
+fn line_of(alloc: Global, name: &str, polynomial: &[u8]) -> Result<Vec<u8>, AllocError>
+    ensures { IfOk result (λ line. line.items ≡ name.now ++ (codes " = " ++ (polynomial.now ++ codes "\n"))) }
+{
+    let mut line = Vec::from_slice(alloc, name.as_bytes())?;
     line.extend_from_slice(b" = ")?;
-    line.extend_from_slice(&polynomial)?;
+    line.extend_from_slice(polynomial)?;
     line.extend_from_slice(b"\n")?;
     Ok(line)
 }

@@ -13,6 +13,5 @@ pub fn labels<F: Field>(alloc: Global, field: &F, setting: &Setting) -> Result<L
     requires { IsReady (F.degree field.now) (F.product field.now) setting.now }
     ensures { IfOk result (λ labels. labels ≡ labels_of (F.degree field.now) setting.now.signature.words) }
 {
-    let labels = labels_for(alloc, setting.signature.words(), field.k())?;
-    Ok(labels)
+    labels_for(alloc, setting.signature.words(), field.k())
 }

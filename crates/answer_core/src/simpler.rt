@@ -4,14 +4,14 @@ ghost use Rattle.job_words.specs.Stop.{GivesBy};
 ghost use Rattle.job_input.specs.Reads.{ReadsOver};
 ghost use Rattle.job_input.specs.Setting.{IsReady, IsTakenFor};
 ghost use Rattle.job_input.specs.declared.setting.Setting.{Setting as SettingOfJob};
-ghost use Rattle.answer_core.specs.Simpler.{IsSimpler, SimplerIn, SimplerUnrolledIn};
+ghost use Rattle.answer_core.specs.Simpler.{SimplerIn, SimplerOf, SimplerUnrolledIn};
 
 use job_input::{BoundNetlist, Setting, read_circuit, unroll_netlist};
 use job_io::Shelf;
 use job_words::Stop;
 use net_simplify::simplify;
 use net_words::Combinational;
-use std::alloc::{AllocError, Global};
+use std::alloc::Global;
 
 /// The circuit of a netlist's file, as `read_circuit` gives it, or where it is asked for a simpler one of the same function.
 pub fn read_simpler<S: Shelf>(
@@ -30,10 +30,7 @@ pub fn read_simpler<S: Shelf>(
     ensures taken { IfOk result (λ circuit. (k : ℕ) (product : ℕ → ℕ → ℕ) → IsReady k product setting.now → IsTakenFor k setting.now circuit) }
 {
     match read_circuit(alloc, shelf, setting, file, cycles) {
-        Ok(circuit) => {
-            let circuit = simpler(alloc, circuit, simple)?;
-            Ok(circuit)
-        }
+        Ok(circuit) => simpler(alloc, circuit, simple),
         Err(stop) => Err(stop),
     }
 }
@@ -51,21 +48,19 @@ pub fn unroll_simpler(
     ensures taken { IfOk result (λ circuit. (k : ℕ) (setting : SettingOfJob) → IsTakenFor k setting netlist → IsTakenFor k setting circuit) }
 {
     match unroll_netlist(alloc, file, netlist, cycles) {
-        Ok(circuit) => {
-            let circuit = simpler(alloc, circuit, simple)?;
-            Ok(circuit)
-        }
+        Ok(circuit) => simpler(alloc, circuit, simple),
         Err(stop) => Err(stop),
     }
 }
 
 // The circuit itself, or the simplified one where it is asked for.
-fn simpler(alloc: Global, circuit: Combinational, simple: bool) -> Result<Combinational, AllocError>
-    ensures gives { IfOk result (λ simpler. IsSimpler simple circuit simpler) }
+fn simpler(alloc: Global, circuit: Combinational, simple: bool) -> Result<Combinational, Stop>
+    ensures gives { GivesBy (λ simpler. simpler) result (SimplerOf simple circuit) ⊥ ⊥ }
     ensures taken { IfOk result (λ simpler. (k : ℕ) (setting : SettingOfJob) → IsTakenFor k setting circuit → IsTakenFor k setting simpler) }
 {
     if simple {
-        simplify(alloc, &circuit)
+        let simplified = simplify(alloc, &circuit)?;
+        Ok(simplified)
     } else {
         Ok(circuit)
     }

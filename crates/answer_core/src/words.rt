@@ -39,8 +39,5 @@ pub fn in_words<F: Field, T: Steps>(
     ensures fault { IfErr result (IsWordRefusal (setting_value (F.degree field.now) (F.product field.now) setting.now) circuit.now bound) }
 {
     let bases = setting.bases.as_slice();
-    match words_poly(alloc, field, circuit, bases, bits, bound, steps) {
-        Ok(poly) => Ok(poly),
-        Err(fault) => Err(fault),
-    }
+    words_poly(alloc, field, circuit, bases, bits, bound, steps)
 }

@@ -1,6 +1,0 @@
-use Rattle.std.proofs.Common.{◌≡◌, ◌++◌, drop}
-use Rattle.answer_core.specs.DifferingLines.{word_lines}
-use Rattle.answer_core.proofs.differing.word_lines.Given as goal
-
-abbrev pub invariant-loop-word : goal.invariant-loop-word
-invariant-loop-word l = l.lines.items ++ word_lines (drop l.word l.labels.words) (drop l.word l.input) ≡ word_lines l.labels.words l.input
