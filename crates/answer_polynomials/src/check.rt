@@ -1,5 +1,6 @@
 //! The command `check`: whether a netlist computes its specification, or the input at which it does not.
 ghost use Rattle.std.specs.Prelude.{◌≡◌, ◌≤◌, length, IfOk};
+ghost use Rattle.outcome.specs.Outcome.{Exactly};
 ghost use Rattle.circuit_model.specs.WellFormed.{IsWellFormed};
 ghost use Rattle.stage_model.specs.OutputInBits.{IsOutputInBits};
 ghost use Rattle.spec_expand.specs.Specification.{IsOverWords};
@@ -9,7 +10,6 @@ ghost use Rattle.job_input.specs.Setting.{setting_value as value_of, IsReady, Is
 ghost use Rattle.spec_compare.specs.Verdict.{comparison_of};
 ghost use Rattle.answer_core.specs.DifferingLines.{difference_at};
 ghost use Rattle.answer_core.specs.Replies.{Replies, RepliesAlone};
-ghost use Rattle.answer_core.specs.Reply.{reply_of};
 ghost use Rattle.answer_core.specs.Abstraction.{taken_circuit};
 ghost use Rattle.answer_polynomials.specs.Check.{WordsLine, CheckBeside, CheckReply, CheckAfterBoth, CheckAfter, CheckAnswerTo, check_reply, rejected_lines};
 
@@ -179,22 +179,14 @@ fn beside<F: Field>(
         &printed.bits,
         bound,
     ) {
-        Ok(verdict) => {
-            let output = output(alloc, labels, &printed.line, &verdict)?;
-            Ok(output)
-        }
+        Ok(verdict) => output(alloc, labels, &printed.line, &verdict),
         Err(stop) => Err(stop),
     }
 }
 
 // What is written of a verdict beside the line of the polynomial.
-fn output(
-    alloc: Global,
-    labels: &Labels,
-    line: &[u8],
-    verdict: &Verdict,
-) -> Result<Output, AllocError>
-    ensures { IfOk result (λ output. reply_of output ≡ check_reply labels.now line.now (comparison_of (length labels.now.words) verdict.now)) }
+fn output(alloc: Global, labels: &Labels, line: &[u8], verdict: &Verdict) -> Result<Output, Stop>
+    ensures { RepliesAlone result (Exactly (check_reply labels.now line.now (comparison_of (length labels.now.words) verdict.now))) }
 {
     match verdict {
         Verdict::Same => {

@@ -1,11 +1,9 @@
 //! The command `eval`: the output word's element where the words have given elements.
-ghost use Rattle.std.specs.Prelude.{◌≡◌, ◌≤◌, ◌<◌, ◌^◌, ℕ, length, IfOk};
+ghost use Rattle.std.specs.Prelude.{◌≡◌, ◌≤◌, ◌<◌, ◌^◌, ℕ, length};
 ghost use Rattle.lists.specs.Lists.{Has};
-ghost use Rattle.circuit_model.specs.Out.{IsOut};
 ghost use Rattle.job_input.specs.Labelling.{labels_of};
 ghost use Rattle.job_input.specs.Setting.{setting_value, IsReady, IsTakenFor};
 ghost use Rattle.answer_core.specs.Replies.{Replies, RepliesAlone};
-ghost use Rattle.answer_core.specs.Abstraction.{taken_circuit};
 ghost use Rattle.answer_polynomials.specs.Eval.{EvalReply, EvalAt, EvalAfter, EvalAnswerTo};
 
 use crate::values::read_values;
@@ -14,9 +12,10 @@ use gf_field::Field;
 use job_input::{BoundNetlist, Setting, read_netlist, unroll_netlist};
 use job_io::Shelf;
 use job_words::{EvalWords, Stop};
+use lift_table::output_at;
 use net_words::Combinational;
 use poly_mixed::Labels;
-use std::alloc::{AllocError, Global};
+use std::alloc::Global;
 
 /// What the command answers over a setting and its netlist's file.
 pub fn answer<F: Field, S: Shelf>(
@@ -79,7 +78,7 @@ fn at<F: Field>(
     }
 }
 
-// The line of the output at an input.
+// The line of the output at an input, which is computed gate by gate.
 fn reply<F: Field>(
     alloc: Global,
     field: &F,
@@ -95,26 +94,9 @@ fn reply<F: Field>(
     requires elements { (x : ℕ) → Has xs.now x → x < 2 ^ F.degree field.now }
     ensures { RepliesAlone result (EvalReply (setting_value (F.degree field.now) (F.product field.now) setting.now) circuit.now xs.now) }
 {
-    let element = output_at(alloc, field, setting, circuit, xs)?;
+    let bases = setting.bases.as_slice();
+    let element = output_at(alloc, field, circuit, bases, xs)?;
     let mut text = Vec::new(alloc);
     add_word(alloc, &mut text, labels.output(), element)?;
     Ok(Output { status: 0, text })
-}
-
-// The output at an input, gate by gate.
-fn output_at<F: Field>(
-    alloc: Global,
-    field: &F,
-    setting: &Setting,
-    circuit: &Combinational,
-    xs: &[u64],
-) -> Result<u64, AllocError>
-    requires ready { IsReady (F.degree field.now) (F.product field.now) setting.now }
-    requires taken { IsTakenFor (F.degree field.now) setting.now circuit.now }
-    requires long { length xs.now ≡ length (labels_of (F.degree field.now) setting.now.signature.words).words }
-    requires elements { (x : ℕ) → Has xs.now x → x < 2 ^ F.degree field.now }
-    ensures { IfOk result (IsOut (taken_circuit (setting_value (F.degree field.now) (F.product field.now) setting.now) circuit.now) xs.now) }
-{
-    let element = lift_table::output_at(alloc, field, circuit, setting.bases.as_slice(), xs)?;
-    Ok(element)
 }

@@ -1,19 +1,18 @@
 //! The command `same`: whether two netlists compute one function, or the input at which they are told apart.
 ghost use Rattle.std.specs.Prelude.{◌≡◌, ◌≤◌, length, IfOk};
-ghost use Rattle.outcome.specs.Outcome.{Within};
+ghost use Rattle.outcome.specs.Outcome.{Exactly, Within};
 ghost use Rattle.job_words.specs.declared.fault.Fault.TheVariants.{Stage};
 ghost use Rattle.job_input.specs.Labelling.{labels_of};
 ghost use Rattle.job_input.specs.Setting.{setting_value, IsReady, IsTakenFor};
 ghost use Rattle.spec_compare.specs.Verdict.{comparison_of};
 ghost use Rattle.answer_core.specs.DifferingLines.{difference_at};
 ghost use Rattle.answer_core.specs.Replies.{Replies, RepliesAlone, ComparesAlone};
-ghost use Rattle.answer_core.specs.Reply.{reply_of};
 ghost use Rattle.answer_polynomials.specs.Same.{SameOf, SameReply, SameAfterFirst, SameAfterBoth, SameAfter, SameAnswerTo, same_reply, differ_lines};
 
 use crate::second_stages::second_stage_stop;
-use answer_core::{Output, add_difference, last_cut, stage_stop, unroll_simpler};
+use answer_core::{Output, add_difference, labels, last_cut, stage_stop, unroll_simpler};
 use gf_field::Field;
-use job_input::{BoundNetlist, Setting, labels_for, read_netlist};
+use job_input::{BoundNetlist, Setting, read_netlist};
 use job_io::Shelf;
 use job_words::{SimplifyPairWords, Stop};
 use net_words::Combinational;
@@ -115,12 +114,9 @@ fn reply<F: Field>(
     requires second { IsTakenFor (F.degree field.now) setting.now other.now }
     ensures { RepliesAlone result (SameReply (setting_value (F.degree field.now) (F.product field.now) setting.now) circuit.now other.now bound) }
 {
-    let labels = labels_for(alloc, setting.signature.words(), field.k())?;
+    let labels = labels(alloc, field, setting)?;
     match verdict(alloc, field, setting, &labels, circuit, other, bound) {
-        Ok(verdict) => {
-            let output = output(alloc, &labels, &verdict)?;
-            Ok(output)
-        }
+        Ok(verdict) => output(alloc, &labels, &verdict),
         Err(stop) => Err(stop),
     }
 }
@@ -161,8 +157,8 @@ fn verdict<F: Field>(
 }
 
 // What is written of a verdict.
-fn output(alloc: Global, labels: &Labels, verdict: &Verdict) -> Result<Output, AllocError>
-    ensures { IfOk result (λ output. reply_of output ≡ same_reply labels.now (comparison_of (length labels.now.words) verdict.now)) }
+fn output(alloc: Global, labels: &Labels, verdict: &Verdict) -> Result<Output, Stop>
+    ensures { RepliesAlone result (Exactly (same_reply labels.now (comparison_of (length labels.now.words) verdict.now))) }
 {
     match verdict {
         Verdict::Same => {

@@ -2,7 +2,7 @@
 ghost use Rattle.std.specs.Prelude.{◌≡◌, ◌++◌, codes, string_bytes, IfOk, length};
 ghost use Rattle.job_words.specs.StageFault.{HasItsWord};
 ghost use Rattle.answer_core.specs.Staged.{second_text};
-ghost use Rattle.answer_core.specs.StageStop.{stage_fault, IsNamed, IsRefusalOf, IsStopCalled};
+ghost use Rattle.answer_core.specs.StageStop.{IsNamed, IsStopCalled};
 
 use job_words::{Fault, StageFault, Stop, write_stage};
 use net_core::Name;
@@ -20,25 +20,15 @@ pub(crate) fn second_stage_stop(
     ensures { IsStopCalled (second_text labels.now) fault bound result }
 {
     match fault {
-        ReduceFault::TooManyTerms { stage, terms } => {
-            second_over_bound(alloc, labels, stage, terms, bound)
-        }
+        ReduceFault::TooManyTerms { stage, terms } => match second_name(alloc, labels, stage) {
+            Ok(stage) => Stop::Refused(Fault::Stage(StageFault {
+                stage,
+                terms,
+                bound,
+            })),
+            Err(_) => Stop::OutOfMemory,
+        },
         ReduceFault::OutOfMemory => Stop::OutOfMemory,
-    }
-}
-
-// The refusal of a stage of the second netlist, of so many terms.
-fn second_over_bound(alloc: Global, labels: &Labels, stage: Stage, terms: u64, bound: u32) -> Stop
-    requires { HasItsWord (length labels.now.words) stage }
-    ensures { IsRefusalOf (stage_fault (second_text labels.now stage) terms bound) result }
-{
-    match second_name(alloc, labels, stage) {
-        Ok(stage) => Stop::Refused(Fault::Stage(StageFault {
-            stage,
-            terms,
-            bound,
-        })),
-        Err(_) => Stop::OutOfMemory,
     }
 }
 
@@ -49,8 +39,7 @@ fn second_name(alloc: Global, labels: &Labels, stage: Stage) -> Result<Name, All
 {
     let text = write_stage(alloc, labels, stage)?;
     let text = after_second(alloc, text.as_str())?;
-    let name = Name::new(alloc, text.as_str())?;
-    Ok(name)
+    Name::new(alloc, text.as_str())
 }
 
 // The text behind `second `.

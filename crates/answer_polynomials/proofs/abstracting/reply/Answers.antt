@@ -37,16 +37,23 @@ returns-in-Err g c =
     (earlier_refused degree mul view c.args.bound (IsInWords setting circuit) (bits_stages setting circuit) (word_listing (taken_circuit setting circuit)) (labels_of degree c.args.setting.now.signature.words) c.in-Err.fault c.stage_stop.result c.in-Err.ensures.fault
     (subst S c.in_ok-labels.ensures c.stage_stop.ensures))
 
-pub in_words-requires-clause-sound : goal.in_words-requires-clause-sound
-in_words-requires-clause-sound g c = c.last_terms.ensures.sound
+pub labels-requires : goal.labels-requires
+labels-requires g c = c.requires.ready
 
-pub in_words-requires-clause-is_bound : goal.in_words-requires-clause-is_bound
-in_words-requires-clause-is_bound g c = c.last_terms.ensures.is_bound
+pub last_terms-requires : goal.last_terms-requires
+last_terms-requires g c = record { ready = c.requires.ready; taken = c.requires.taken }
 
-pub in_words-requires-clause-few : goal.in_words-requires-clause-few
-in_words-requires-clause-few g c =
+pub in_words-requires : goal.in_words-requires
+in_words-requires g c =
     let small : length c.in-Ok.bits.items ≤ c.args.bound = c.in-Ok.ensures.few in
-    omega (arith, small, c.ranges.bound.fits)
+    record {
+      ready = c.requires.ready;
+      taken = c.requires.taken;
+      sound = c.last_terms.ensures.sound;
+      is_bound = c.last_terms.ensures.is_bound;
+      bits = c.in-Ok.ensures.mix;
+      few = omega (arith, small, c.ranges.bound.fits);
+    }
 
 pub stage_stop-requires-in-Err-in_words : goal.stage_stop-requires-in-Err-in_words
 stage_stop-requires-in-Err-in_words g c =
@@ -68,15 +75,11 @@ returns-in-Err-in_words g c =
     (later_refused degree mul view c.args.bound (IsInWords setting circuit) (bits_stages setting circuit) (word_listing (taken_circuit setting circuit)) (labels_of degree c.args.setting.now.signature.words) c.in-Err-in_words.fault c.stage_stop-in-Err-in_words.result c.in-Ok.ensures.within c.in-Err-in_words.ensures.fault
     (subst S c.in_ok-labels.ensures c.stage_stop-in-Err-in_words.ensures))
 
-pub polynomial_line-requires-clause-named : goal.polynomial_line-requires-clause-named
-polynomial_line-requires-clause-named g c =
+pub polynomial_line-requires : goal.polynomial_line-requires
+polynomial_line-requires g c =
     let P : Labelling → Type 0 = λ l. HasNames l c.in-Ok-in_words.poly.terms in
-    subst P (sym c.in_ok-labels.ensures) c.in-Ok-in_words.ensures.named
-
-pub polynomial_line-requires-clause-words_named : goal.polynomial_line-requires-clause-words_named
-polynomial_line-requires-clause-words_named g c =
-    let P : Labelling → Type 0 = λ l. HasWordNames l c.in-Ok-in_words.poly.terms in
-    subst P (sym c.in_ok-labels.ensures) c.in-Ok-in_words.ensures.words_named
+    let Q : Labelling → Type 0 = λ l. HasWordNames l c.in-Ok-in_words.poly.terms in
+    record { named = subst P (sym c.in_ok-labels.ensures) c.in-Ok-in_words.ensures.named; words_named = subst Q (sym c.in_ok-labels.ensures) c.in-Ok-in_words.ensures.words_named }
 
 pub returns : goal.returns
 returns g c =

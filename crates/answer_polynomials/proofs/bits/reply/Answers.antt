@@ -34,15 +34,11 @@ returns-in-Err g c =
     (one_refused degree mul view c.args.bound (IsLastCut setting circuit) (bits_stages setting circuit) (labels_of degree c.args.setting.now.signature.words) c.in-Err.fault c.stage_stop.result c.in-Err.ensures.fault
     (subst S c.in_ok-labels.ensures c.stage_stop.ensures))
 
-pub polynomial_line-requires-clause-named : goal.polynomial_line-requires-clause-named
-polynomial_line-requires-clause-named g c =
+pub polynomial_line-requires : goal.polynomial_line-requires
+polynomial_line-requires g c =
     let P : Labelling → Type 0 = λ l. HasNames l c.in-Ok.poly.terms in
-    subst P (sym c.in_ok-labels.ensures) c.in-Ok.ensures.named
-
-pub polynomial_line-requires-clause-words_named : goal.polynomial_line-requires-clause-words_named
-polynomial_line-requires-clause-words_named g c =
-    let P : Labelling → Type 0 = λ l. HasWordNames l c.in-Ok.poly.terms in
-    subst P (sym c.in_ok-labels.ensures) c.in-Ok.ensures.words_named
+    let Q : Labelling → Type 0 = λ l. HasWordNames l c.in-Ok.poly.terms in
+    record { named = subst P (sym c.in_ok-labels.ensures) c.in-Ok.ensures.named; words_named = subst Q (sym c.in_ok-labels.ensures) c.in-Ok.ensures.words_named }
 
 pub returns : goal.returns
 returns g c =

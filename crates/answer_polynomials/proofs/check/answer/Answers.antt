@@ -1,3 +1,4 @@
+use Rattle.std.proofs.Common.{◌∙◌, arith}
 use Rattle.job_io.specs.Counts.{Rose}
 use Rattle.job_words.proofs.StepLemmas.{after}
 use Rattle.job_input.specs.NetlistOf.{NetlistIn}
@@ -10,8 +11,8 @@ use Rattle.answer_polynomials.proofs.check.answer.Goals as goal
 pub over-requires-clause-taken : goal.over-requires-clause-taken
 over-requires-clause-taken g c = c.in-Ok.ensures.taken (g.F.Ring.degree c.args.field.now) (g.F.Ring.product c.args.field.now) c.requires
 
-pub returns-in-Ok-clause-gives : goal.returns-in-Ok-clause-gives
-returns-in-Ok-clause-gives g c =
+pub returns-in-Ok : goal.returns-in-Ok
+returns-in-Ok g c =
     let held = g.S.Shelf.held c.args.shelf.now in
     let setting = setting_value (g.F.Ring.degree c.args.field.now) (g.F.Ring.product c.args.field.now) c.args.setting.now in
     let words = c.args.words.now in
@@ -21,6 +22,10 @@ returns-in-Ok-clause-gives g c =
     let f0 = g.S.Shelf.faults c.args.shelf.now in
     let f1 = g.S.Shelf.faults c.read_netlist.new.shelf in
     let f2 = g.S.Shelf.faults c.over.new.shelf in
-    after reply_of c.over.result (NetlistIn held c.args.setting.now.signature words.net.now) (λ netlist. CheckOver held setting words.net.now netlist words.other.now words.terms words.cycles words.simplify) c.in-Ok.netlist
-    (Rose m0 m2) (Rose f0 f2) (Rose m1 m2) (Rose f1 f2) c.in-Ok.ensures.gives
-    (rose_earlier m0 m1 m2 c.read_netlist.ensures.never_fall.1) (rose_earlier f0 f1 f2 c.read_netlist.ensures.never_fall.0) (rw c.read_netlist.ensures.held at c.over.ensures.gives)
+    record {
+      held = c.over.ensures.held ∙ c.read_netlist.ensures.held;
+      never_fall = (omega (arith, c.read_netlist.ensures.never_fall.0, c.over.ensures.never_fall.0), omega (arith, c.read_netlist.ensures.never_fall.1, c.over.ensures.never_fall.1));
+      gives = after reply_of c.over.result (NetlistIn held c.args.setting.now.signature words.net.now) (λ netlist. CheckOver held setting words.net.now netlist words.other.now words.terms words.cycles words.simplify) c.in-Ok.netlist
+          (Rose m0 m2) (Rose f0 f2) (Rose m1 m2) (Rose f1 f2) c.in-Ok.ensures.gives
+          (rose_earlier m0 m1 m2 c.read_netlist.ensures.never_fall.1) (rose_earlier f0 f1 f2 c.read_netlist.ensures.never_fall.0) (rw c.read_netlist.ensures.held at c.over.ensures.gives);
+    }

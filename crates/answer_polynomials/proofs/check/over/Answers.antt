@@ -11,8 +11,8 @@ use Rattle.answer_core.specs.Reply.{reply_of}
 use Rattle.answer_polynomials.specs.Check.{CheckUnrolled}
 use Rattle.answer_polynomials.proofs.check.over.Goals as goal
 
-pub returns-in-Ok-clause-gives : goal.returns-in-Ok-clause-gives
-returns-in-Ok-clause-gives g c =
+pub returns-in-Ok : goal.returns-in-Ok
+returns-in-Ok g c =
     let degree = g.F.Ring.degree c.args.field.now in
     let mul = g.F.Ring.product c.args.field.now in
     let held = g.S.Shelf.held c.args.shelf.now in
@@ -20,11 +20,15 @@ returns-in-Ok-clause-gives g c =
     let missed = Rose (g.S.Shelf.misses c.args.shelf.now) (g.S.Shelf.misses c.read_specification.new.shelf) in
     let failed = Rose (g.S.Shelf.faults c.args.shelf.now) (g.S.Shelf.faults c.read_specification.new.shelf) in
     let P : Labelling → Type 0 = λ l. SpecificationIn held l degree mul c.args.words.now.other.now (Ok c.in-Ok.spec) in
-    after reply_of c.unrolled.result (SpecificationIn held (labels_of degree c.args.setting.now.signature.words) degree mul c.args.words.now.other.now) (λ spec. CheckUnrolled setting c.args.words.now.net.now c.args.netlist spec c.args.words.now.terms c.args.words.now.cycles c.args.words.now.simplify) c.in-Ok.spec
-    missed failed ⊥ ⊥ (subst P c.in_ok-labels.ensures c.in-Ok.ensures.gives) (λ m. absurd m) (λ f. absurd f) c.unrolled.ensures
+    record {
+      held = c.read_specification.ensures.held;
+      never_fall = c.read_specification.ensures.never_fall;
+      gives = after reply_of c.unrolled.result (SpecificationIn held (labels_of degree c.args.setting.now.signature.words) degree mul c.args.words.now.other.now) (λ spec. CheckUnrolled setting c.args.words.now.net.now c.args.netlist spec c.args.words.now.terms c.args.words.now.cycles c.args.words.now.simplify) c.in-Ok.spec
+          missed failed ⊥ ⊥ (subst P c.in_ok-labels.ensures c.in-Ok.ensures.gives) (λ m. absurd m) (λ f. absurd f) c.unrolled.ensures;
+    }
 
-pub returns-in-Err-clause-gives : goal.returns-in-Err-clause-gives
-returns-in-Err-clause-gives g c =
+pub returns-in-Err : goal.returns-in-Err
+returns-in-Err g c =
     let degree = g.F.Ring.degree c.args.field.now in
     let mul = g.F.Ring.product c.args.field.now in
     let held = g.S.Shelf.held c.args.shelf.now in
@@ -32,5 +36,9 @@ returns-in-Err-clause-gives g c =
     let missed = Rose (g.S.Shelf.misses c.args.shelf.now) (g.S.Shelf.misses c.read_specification.new.shelf) in
     let failed = Rose (g.S.Shelf.faults c.args.shelf.now) (g.S.Shelf.faults c.read_specification.new.shelf) in
     let P : Labelling → Type 0 = λ l. GivesBy {X = SpecTerms} (λ spec. spec) (Err c.in-Err.stop) (SpecificationIn held l degree mul c.args.words.now.other.now) missed failed in
-    stops {X = SpecTerms} (λ spec. spec) reply_of c.in-Err.stop (SpecificationIn held (labels_of degree c.args.setting.now.signature.words) degree mul c.args.words.now.other.now) (λ spec. CheckUnrolled setting c.args.words.now.net.now c.args.netlist spec c.args.words.now.terms c.args.words.now.cycles c.args.words.now.simplify)
-    missed failed missed failed (λ m. m) (λ f. f) (subst P c.in_ok-labels.ensures c.in-Err.ensures.gives)
+    record {
+      held = c.read_specification.ensures.held;
+      never_fall = c.read_specification.ensures.never_fall;
+      gives = stops {X = SpecTerms} (λ spec. spec) reply_of c.in-Err.stop (SpecificationIn held (labels_of degree c.args.setting.now.signature.words) degree mul c.args.words.now.other.now) (λ spec. CheckUnrolled setting c.args.words.now.net.now c.args.netlist spec c.args.words.now.terms c.args.words.now.cycles c.args.words.now.simplify)
+          missed failed missed failed (λ m. m) (λ f. f) (subst P c.in_ok-labels.ensures c.in-Err.ensures.gives);
+    }

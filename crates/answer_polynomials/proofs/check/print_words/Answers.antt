@@ -28,35 +28,39 @@ stage_stop-requires g c =
     let setting : SettingValue = setting_value degree mul c.args.setting.now in
     cuts_named degree mul c.args.circuit.now (output_basis c.args.circuit.now.binding.words setting.bases) (length c.args.labels.now.words) c.args.bound c.in-Err.fault c.in-Err.ensures.fault
 
-pub returns-in-Err-clause-gives : goal.returns-in-Err-clause-gives
-returns-in-Err-clause-gives g c =
+pub returns-in-Err : goal.returns-in-Err
+returns-in-Err g c =
     let degree = g.F.Ring.degree c.args.field.now in
     let mul = g.F.Ring.product c.args.field.now in
     let setting : SettingValue = setting_value degree mul c.args.setting.now in
     let circuit = c.args.circuit.now in
     let S : Labelling → Type 0 = λ l. IsStageStop l c.in-Err.fault c.args.bound c.stage_stop.result in
     let view : Terms → Terms = λ ts. ts in
-    stops {Y = Printed} view (λ printed. printed.line.items) c.stage_stop.result (Within faults.Stage (AbstractOf setting circuit c.args.bound)) (λ ts. Exactly (polynomial_line setting ts)) ⊥ ⊥ ⊥ ⊥ (λ m. m) (λ f. f)
-    (earlier_refused degree mul view c.args.bound (IsInWords setting circuit) (bits_stages setting circuit) (word_listing (taken_circuit setting circuit)) (labels_of degree c.args.setting.now.signature.words) c.in-Err.fault c.stage_stop.result c.in-Err.ensures.fault (subst S c.requires.labels c.stage_stop.ensures))
+    record {
+      gives = stops {Y = Printed} view (λ printed. printed.line.items) c.stage_stop.result (Within faults.Stage (AbstractOf setting circuit c.args.bound)) (λ ts. Exactly (polynomial_line setting ts)) ⊥ ⊥ ⊥ ⊥ (λ m. m) (λ f. f)
+          (earlier_refused degree mul view c.args.bound (IsInWords setting circuit) (bits_stages setting circuit) (word_listing (taken_circuit setting circuit)) (labels_of degree c.args.setting.now.signature.words) c.in-Err.fault c.stage_stop.result c.in-Err.ensures.fault (subst S c.requires.labels c.stage_stop.ensures));
+      well = tt;
+      output = tt;
+    }
 
-pub in_words-requires-clause-sound : goal.in_words-requires-clause-sound
-in_words-requires-clause-sound g c = c.last_cut.ensures.sound
+pub last_cut-requires : goal.last_cut-requires
+last_cut-requires g c = record { ready = c.requires.ready; taken = c.requires.taken }
 
-pub in_words-requires-clause-is_bound : goal.in_words-requires-clause-is_bound
-in_words-requires-clause-is_bound g c = c.last_cut.ensures.is_bound
-
-pub in_words-requires-clause-bits : goal.in_words-requires-clause-bits
-in_words-requires-clause-bits g c =
+pub in_words-requires : goal.in_words-requires
+in_words-requires g c =
     let degree = g.F.Ring.degree c.args.field.now in
     let mul = g.F.Ring.product c.args.field.now in
     let P : Terms → Type 0 = λ ts. IsOfStage degree mul (IsMix (taken_circuit (setting_value degree mul c.args.setting.now) c.args.circuit.now) 0) ts in
-    subst P (sym c.in_ok-list.ensures) c.in-Ok.ensures.mix
-
-pub in_words-requires-clause-few : goal.in_words-requires-clause-few
-in_words-requires-clause-few g c =
     let same : length c.in_ok-list.list.items ≡ length c.in-Ok.bits.terms = ap (λ (ts : Terms). length ts) c.in_ok-list.ensures in
     let small : length c.in-Ok.bits.terms ≤ c.args.bound = c.in-Ok.ensures.few in
-    omega (arith, same, small, c.ranges.bound.fits)
+    record {
+      ready = c.requires.ready;
+      taken = c.requires.taken;
+      sound = c.last_cut.ensures.sound;
+      is_bound = c.last_cut.ensures.is_bound;
+      bits = subst P (sym c.in_ok-list.ensures) c.in-Ok.ensures.mix;
+      few = omega (arith, same, small, c.ranges.bound.fits);
+    }
 
 pub stage_stop-requires-in-Err-in_words : goal.stage_stop-requires-in-Err-in_words
 stage_stop-requires-in-Err-in_words g c =
@@ -66,36 +70,41 @@ stage_stop-requires-in-Err-in_words g c =
     let long = labels_long degree mul c.args.setting.now c.requires.ready c.args.circuit.now c.requires.taken c.args.labels.now c.requires.labels in
     words_named degree mul whole (length c.args.labels.now.words) c.args.bound c.in-Err-in_words.fault (sym long) c.in-Err-in_words.ensures.fault
 
-pub returns-in-Err-in_words-clause-gives : goal.returns-in-Err-in_words-clause-gives
-returns-in-Err-in_words-clause-gives g c =
+pub returns-in-Err-in_words : goal.returns-in-Err-in_words
+returns-in-Err-in_words g c =
     let degree = g.F.Ring.degree c.args.field.now in
     let mul = g.F.Ring.product c.args.field.now in
     let setting : SettingValue = setting_value degree mul c.args.setting.now in
     let circuit = c.args.circuit.now in
     let S : Labelling → Type 0 = λ l. IsStageStop l c.in-Err-in_words.fault c.args.bound c.stage_stop-in-Err-in_words.result in
     let view : Terms → Terms = λ ts. ts in
-    stops {Y = Printed} view (λ printed. printed.line.items) c.stage_stop-in-Err-in_words.result (Within faults.Stage (AbstractOf setting circuit c.args.bound)) (λ ts. Exactly (polynomial_line setting ts)) ⊥ ⊥ ⊥ ⊥ (λ m. m) (λ f. f)
-    (later_refused degree mul view c.args.bound (IsInWords setting circuit) (bits_stages setting circuit) (word_listing (taken_circuit setting circuit)) (labels_of degree c.args.setting.now.signature.words) c.in-Err-in_words.fault c.stage_stop-in-Err-in_words.result c.in-Ok.ensures.within c.in-Err-in_words.ensures.fault
-    (subst S c.requires.labels c.stage_stop-in-Err-in_words.ensures))
+    record {
+      gives = stops {Y = Printed} view (λ printed. printed.line.items) c.stage_stop-in-Err-in_words.result (Within faults.Stage (AbstractOf setting circuit c.args.bound)) (λ ts. Exactly (polynomial_line setting ts)) ⊥ ⊥ ⊥ ⊥ (λ m. m) (λ f. f)
+          (later_refused degree mul view c.args.bound (IsInWords setting circuit) (bits_stages setting circuit) (word_listing (taken_circuit setting circuit)) (labels_of degree c.args.setting.now.signature.words) c.in-Err-in_words.fault c.stage_stop-in-Err-in_words.result c.in-Ok.ensures.within c.in-Err-in_words.ensures.fault
+          (subst S c.requires.labels c.stage_stop-in-Err-in_words.ensures));
+      well = tt;
+      output = tt;
+    }
 
-pub polynomial_line-requires-clause-named : goal.polynomial_line-requires-clause-named
-polynomial_line-requires-clause-named g c =
+pub polynomial_line-requires : goal.polynomial_line-requires
+polynomial_line-requires g c =
     let P : Labelling → Type 0 = λ l. HasNames l c.in-Ok-in_words.poly.terms in
-    subst P (sym c.requires.labels) c.in-Ok-in_words.ensures.named
+    let Q : Labelling → Type 0 = λ l. HasWordNames l c.in-Ok-in_words.poly.terms in
+    record { named = subst P (sym c.requires.labels) c.in-Ok-in_words.ensures.named; words_named = subst Q (sym c.requires.labels) c.in-Ok-in_words.ensures.words_named }
 
-pub polynomial_line-requires-clause-words_named : goal.polynomial_line-requires-clause-words_named
-polynomial_line-requires-clause-words_named g c =
-    let P : Labelling → Type 0 = λ l. HasWordNames l c.in-Ok-in_words.poly.terms in
-    subst P (sym c.requires.labels) c.in-Ok-in_words.ensures.words_named
-
-pub returns-clause-gives : goal.returns-clause-gives
-returns-clause-gives g c =
+pub returns : goal.returns
+returns g c =
     let degree = g.F.Ring.degree c.args.field.now in
     let mul = g.F.Ring.product c.args.field.now in
     let setting : SettingValue = setting_value degree mul c.args.setting.now in
     let circuit = c.args.circuit.now in
-    let ts = c.in-Ok-in_words.poly.terms in (
-      ts,
-      (c.in-Ok-in_words.ensures.words, both_within degree mul (bits_stages setting circuit) (word_listing (taken_circuit setting circuit)) c.args.bound c.in-Ok.ensures.within c.in-Ok-in_words.ensures.within),
-      c.in_ok-line.ensures ∙ ap (λ (l : Labelling). l.output ++ (codes " = " ++ (text l ts ++ codes "\n"))) c.requires.labels,
-    )
+    let ts = c.in-Ok-in_words.poly.terms in
+    record {
+      gives = (
+        ts,
+        (c.in-Ok-in_words.ensures.words, both_within degree mul (bits_stages setting circuit) (word_listing (taken_circuit setting circuit)) c.args.bound c.in-Ok.ensures.within c.in-Ok-in_words.ensures.within),
+        c.in_ok-line.ensures ∙ ap (λ (l : Labelling). l.output ++ (codes " = " ++ (text l ts ++ codes "\n"))) c.requires.labels,
+      );
+      well = c.last_cut.ensures.well;
+      output = c.in-Ok.ensures.output;
+    }
