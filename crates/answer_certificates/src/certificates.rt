@@ -8,7 +8,7 @@ ghost use Rattle.job_input.specs.Setting.{IsReady, IsTakenFor};
 ghost use Rattle.job_input.specs.declared.setting.Setting.{Setting as SettingOfJob};
 ghost use Rattle.answer_certificates.specs.Certificates.{CertifiedBy, CertifiedIn, CertifiedOver, sum_fault, sum_name as name_of_sum, certificate_fault_of};
 ghost use Rattle.answer_certificates.specs.private.CertificateStop.{certified_of};
-ghost use Rattle.answer_core.specs.StageStop.{stage_fault, IsRefusalOf, IsStopOf};
+ghost use Rattle.answer_core.specs.StageStop.{IsStopOf};
 ghost use Rattle.job_input.specs.Reads.{GivesOver};
 
 use cert_check::CertFault;
@@ -45,8 +45,7 @@ pub(crate) fn certificate_labels<F: Field>(
     ensures sound { IsSound circuit.now.net }
     ensures is_bound { IsOneCycle circuit.now.net circuit.now.binding }
 {
-    let labels = circuit_labels_for(alloc, setting.signature.words(), field.k(), circuit)?;
-    Ok(labels)
+    circuit_labels_for(alloc, setting.signature.words(), field.k(), circuit)
 }
 
 /// The circuit of a netlist's file over at most 4,096 cycles after the first, and the bytes of a certificate's file, or the
@@ -135,7 +134,14 @@ pub(crate) fn sum_stop(alloc: Global, fault: CertFault, bound: u32) -> Stop
     ensures { IsStopOf (sum_fault bound fault) result }
 {
     match fault {
-        CertFault::TooManyTerms { line, terms } => over_bound(alloc, line, terms, bound),
+        CertFault::TooManyTerms { line, terms } => match sum_name(alloc, line) {
+            Ok(stage) => Stop::Refused(Fault::Stage(StageFault {
+                stage,
+                terms,
+                bound,
+            })),
+            Err(_) => Stop::OutOfMemory,
+        },
         fault => text_stop(fault),
     }
 }
@@ -147,25 +153,10 @@ fn refused(fault: CertificateFault) -> Stop
     Stop::Refused(Fault::Certificate(fault))
 }
 
-// The refusal of a running sum of so many terms.
-fn over_bound(alloc: Global, line: u32, terms: u64, bound: u32) -> Stop
-    ensures { IsRefusalOf (stage_fault (name_of_sum line) terms bound) result }
-{
-    match sum_name(alloc, line) {
-        Ok(stage) => Stop::Refused(Fault::Stage(StageFault {
-            stage,
-            terms,
-            bound,
-        })),
-        Err(_) => Stop::OutOfMemory,
-    }
-}
-
 // What the running sum after a line is called.
 fn sum_name(alloc: Global, line: u32) -> Result<Name, AllocError>
     ensures { IfOk result (λ name. name ≡ name_of_sum line) }
 {
     let text = format!(in alloc; "certificate line {line}")?;
-    let name = Name::new(alloc, text.as_str())?;
-    Ok(name)
+    Name::new(alloc, text.as_str())
 }

@@ -1,6 +1,7 @@
 //! The command `verify`: whether a certificate proves its claim.
 ghost use Rattle.std.specs.Prelude.{◌≡◌, ◌≤◌, ◌++◌, length, codes, decimal, IfOk};
 ghost use Rattle.poly_mixed.specs.Text.{HasNames, HasWordNames};
+ghost use Rattle.outcome.specs.Outcome.{Exactly};
 ghost use Rattle.cert_check.specs.Verdict.{verdict_of};
 ghost use Rattle.job_words.specs.Stop.{GivesBy};
 ghost use Rattle.job_input.specs.Labelling.{labels_of};
@@ -8,7 +9,7 @@ ghost use Rattle.job_input.specs.Setting.{setting_value, IsReady, IsTakenFor};
 ghost use Rattle.answer_core.specs.Reply.{line_with, reply_of};
 ghost use Rattle.answer_certificates.specs.Verify.{VerdictOf, VerifyReply, VerifyAnswerTo, verify_reply};
 ghost use Rattle.answer_certificates.specs.private.CertificateStop.{certified_of, IsNamedVerdict};
-ghost use Rattle.answer_core.specs.Replies.{Replies};
+ghost use Rattle.answer_core.specs.Replies.{Replies, RepliesAlone};
 
 use crate::certificates::{Certified, certificate_labels, read_certified, sum_stop};
 use answer_core::{Output, labels, polynomial_line};
@@ -63,8 +64,7 @@ fn reply<F: Field>(
     ) {
         Ok(verdict) => {
             let labels = labels(alloc, field, setting)?;
-            let output = output(alloc, &labels, &verdict)?;
-            Ok(output)
+            output(alloc, &labels, &verdict)
         }
         Err(stop) => Err(stop),
     }
@@ -94,9 +94,9 @@ fn verdict<F: Field>(
 }
 
 // What is written of a verdict.
-fn output(alloc: Global, labels: &Labels, verdict: &CertVerdict) -> Result<Output, AllocError>
+fn output(alloc: Global, labels: &Labels, verdict: &CertVerdict) -> Result<Output, Stop>
     requires { IsNamedVerdict labels.now (verdict_of verdict.now) }
-    ensures { IfOk result (λ output. reply_of output ≡ verify_reply labels.now (verdict_of verdict.now)) }
+    ensures { RepliesAlone result (Exactly (verify_reply labels.now (verdict_of verdict.now))) }
 {
     match verdict {
         CertVerdict::Valid(claim) => {
