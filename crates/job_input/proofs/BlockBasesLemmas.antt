@@ -1,5 +1,5 @@
 -- The bases of the words of blocks: where no block is left, and where the next has none.
-use Rattle.std.proofs.Common.{◌≡◌, refl, sym, subst, inl, ℕ, ◌<◌, ◌≤◌, List, [], ◌∷◌, length, drop, get_or, drop_of_length-le, Ok, Err}
+use Rattle.std.proofs.Common.{◌≡◌, refl, sym, subst, inl, ℕ, ◌<◌, ◌≤◌, List, length, drop, get_or, drop_of_length-le, Ok, Err}
 use Rattle.std.proofs.lemmas.List.{drop_more}
 use Rattle.net_signature.specs.Body.{BlockValue}
 use Rattle.job_words.specs.declared.signature_fault.SignatureFault.{SignatureFault}

@@ -1,5 +1,5 @@
 -- The name of the output word, found word by word.
-use Rattle.std.proofs.Common.{◌≡◌, ◌≢◌, ◌∙◌, ap, sym, refl, subst, ℕ, zero, suc, ◌+◌, ◌≤◌, Bool, true, false, cond, List, [], ◌∷◌, length, drop, filter, Some, arith, drop_of_length-le}
+use Rattle.std.proofs.Common.{◌≡◌, ◌≢◌, ◌∙◌, ap, sym, refl, subst, ℕ, zero, suc, ◌+◌, ◌≤◌, Bool, false, cond, List, [], ◌∷◌, length, drop, filter, Some, arith, drop_of_length-le}
 use Rattle.std.specs.Prelude.{slice_get}
 use Rattle.net_words.specs.Roles.{is_output, same_role}
 use Rattle.net_words.specs.declared.word.Role.{Role}

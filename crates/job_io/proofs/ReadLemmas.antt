@@ -1,5 +1,5 @@
 -- What follows of what a read of a shelf in memory gives, and of what is counted of it.
-use Rattle.std.proofs.Common.{◌≡◌, ◌∙◌, ap, sym, refl, inl, inr, ◌≤◌, ◌<◌, ◌-◌, ◌^◌, ◌↔◌, nat_lt, ℕ, Bool, true, false, List, length, Option, None, Some, Result, Ok, Err, Vec, vec_len, IfOk, IsErrOf, IsTrue, arith}
+use Rattle.std.proofs.Common.{◌≡◌, ◌∙◌, ap, refl, inl, inr, ◌≤◌, ◌<◌, ◌-◌, ◌^◌, ◌↔◌, nat_lt, ℕ, Bool, true, false, List, length, Option, None, Some, Result, Ok, Err, Vec, vec_len, IfOk, IsErrOf, IsTrue, arith}
 use Rattle.std.specs.declared.alloc.Global.{Global}
 use Rattle.std.proofs.lemmas.Bool.{ltb-true, ltb-false}
 use Rattle.job_io.specs.Counts.{Rose, next_of}
@@ -93,6 +93,6 @@ module _ (fails : Bool) (file : Option (List ℕ)) (limit : ℕ) where
   pub too_long : (read : Read) → Gives fails file limit read → (n : ℕ) → IsErrOf read (TooLong n) → (n ≡ limit) × IsLong
   too_long (Ok bytes) gives n e = absurd (cc)
   too_long (Err Absent) gives n e = absurd (cc)
-  too_long (Err (TooLong m)) (sure, same, bytes, is, long) n e = let equal : n ≡ m = cc in (equal ∙ same, bytes, is, long)
+  too_long (Err (TooLong m)) (sure, same, bytes, is, long) n e = let equal : n ≡ m = cc in (equal ∙ same, (bytes, is, long))
   too_long (Err Failed) gives n e = absurd (cc)
   too_long (Err OutOfMemory) gives n e = absurd (cc)

@@ -1,6 +1,6 @@
 -- Units and bodies in lists, and what a step makes of them.
-use Rattle.std.proofs.Common.{◌≡◌, ◌≢◌, ◌⊎◌, ◌∙◌, ap, ap₂, sym, refl, inl, inr, subst, ℕ, zero, suc, ◌<◌, ◌≤◌, ◌+◌, ◌-◌, ◌*◌, ◌%◌, ◌^◌, Bool, true, false, cond, List, [], ◌∷◌, ◌++◌, length, map, bytes_eq, Option, Some, None, arith, pow-suc, pow_pos}
-use Rattle.std.specs.Prelude.{slice_get, slice_set, ◌==◌}
+use Rattle.std.proofs.Common.{◌≡◌, ◌≢◌, ◌∙◌, ap, sym, refl, inl, inr, subst, ℕ, zero, suc, ◌<◌, ◌≤◌, ◌+◌, ◌-◌, ◌^◌, cond, List, [], ◌∷◌, ◌++◌, length, map, bytes_eq, Option, Some, None, arith}
+use Rattle.std.specs.Prelude.{slice_get, slice_set}
 use Rattle.lists.specs.Lists.{Has}
 use Rattle.lists.specs.laws.HasLaws.{All_has}
 use Rattle.lists.specs.laws.NumberLaws.{nat_eq_or}
@@ -15,11 +15,11 @@ use Rattle.net_simplify.specs.Choice.{Forms, IsChosen}
 use Rattle.net_simplify.specs.Simplified.{AreTwins, IsUnitBy}
 use Rattle.net_simplify.specs.private.Catalog.{IsFound, IsKept, IsUnitFor, net_of, twin_key}
 use Rattle.net_simplify.specs.private.Lists.{AreThemselves, FormLists, form_at, forms_of, no_form}
-use Rattle.net_simplify.specs.private.Underway.{AreFormsTo, ArePlaced, Extends, IsEarlier, IsStep, IsUnderway, Keeps}
+use Rattle.net_simplify.specs.private.Underway.{AreFormsTo, Extends, IsEarlier, IsStep, IsUnderway, Keeps}
 use Rattle.net_simplify.specs.declared.catalog.Catalog.{Catalog}
 use Rattle.net_simplify.proofs.FormLemmas.{itself_form}
-use Rattle.net_simplify.proofs.MeaningLemmas.{StandsOn, settled_to}
-use Rattle.net_simplify.proofs.StepLemmas.{first, parted, rest}
+use Rattle.net_simplify.proofs.MeaningLemmas.{settled_to}
+use Rattle.net_simplify.proofs.StepLemmas.{first}
 use Rattle.net_simplify.proofs.TwinLemmas.{full_even}
 use Rattle.net_simplify.proofs.UnderwayLemmas.{chosen_stands, complement_composed, constant_composed, itself_composed, one_leaf, step_added, step_found, step_idle, step_reduced}
 

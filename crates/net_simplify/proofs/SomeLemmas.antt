@@ -1,5 +1,5 @@
 -- Each sound net list has a simplified one.
-use Rattle.std.proofs.Common.{◌≡◌, ◌≢◌, ◌⊎◌, ◌∙◌, ap, sym, refl, inl, inr, subst, ℕ, zero, suc, ◌<◌, ◌≤◌, ◌+◌, ◌-◌, ◌^◌, Bool, true, false, cond, List, [], ◌∷◌, ◌++◌, length, map, bytes_eq, Option, Some, None, arith, pow_pos}
+use Rattle.std.proofs.Common.{◌≡◌, ◌≢◌, ◌∙◌, ap, sym, refl, inl, inr, subst, ℕ, zero, suc, ◌<◌, ◌≤◌, ◌+◌, ◌-◌, ◌^◌, Bool, cond, List, [], ◌∷◌, ◌++◌, length, map, bytes_eq, Option, Some, None, arith, pow_pos}
 use Rattle.std_collections.specs.Layout.BTreeMap.{btree_map, with_entries}
 use Rattle.std.specs.Prelude.{slice_get, slice_set}
 use Rattle.std.proofs.lemmas.Slice.Eq.{bytes_eq-Decides}
@@ -14,9 +14,9 @@ use Rattle.net_core.proofs.DriverLemmas.{gate_inside}
 use Rattle.net_simplify.specs.Choice.{Forms, Gives, IsChosen, leaves_of, price, taken}
 use Rattle.net_simplify.specs.Form.{Form, IsComposed, IsForm, complement, itself}
 use Rattle.net_simplify.specs.Simplified.{AreForms, AreTwins, IsSimplified, IsUnitBy, with_forms}
-use Rattle.net_simplify.specs.Uses.{AreInOrder, is_single, uses}
+use Rattle.net_simplify.specs.Uses.{is_single, uses}
 use Rattle.net_simplify.specs.private.Best.{IsBest}
-use Rattle.net_simplify.specs.private.Catalog.{IsUnitFor, net_of, numbers_cmp, twin_key}
+use Rattle.net_simplify.specs.private.Catalog.{IsUnitFor, net_of, twin_key}
 use Rattle.net_simplify.specs.private.Lists.{AreThemselves, FormLists, form_at, forms_of}
 use Rattle.net_simplify.specs.private.Marks.{gates_by}
 use Rattle.net_simplify.specs.private.Underway.{ArePlaced, IsStep, IsUnderway}

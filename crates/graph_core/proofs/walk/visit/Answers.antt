@@ -1,6 +1,6 @@
-use Rattle.std.proofs.Common.{inl, arith, length}
+use Rattle.std.proofs.Common.{inl, arith}
 use Rattle.std.proofs.lemmas.Option.{slice_get_within}
-use Rattle.graph_core.specs.declared.walk.Mark.TheVariants.{Unseen, Open, Done}
+use Rattle.graph_core.specs.declared.walk.Mark.TheVariants.{Unseen, Open}
 use Rattle.graph_core.proofs.WalkLemmas.{begun, starts_alone, met_set, met_here, reached_set, visit_done}
 use Rattle.graph_core.proofs.walk.visit.Goals as goal
 

@@ -1,4 +1,4 @@
-use Rattle.std.proofs.Common.{◌≡◌, ◌++◌, List, ℕ, [], length, take, take_all, ap, subst, ◌∙◌, sym}
+use Rattle.std.proofs.Common.{◌≡◌, ◌++◌, List, ℕ, [], take, take_all, ap, subst, ◌∙◌, sym}
 use Rattle.lists.specs.laws.ReadLaws.{got_read}
 use Rattle.poly_mixed.specs.Labels.{Labelling}
 use Rattle.job_input.specs.Labelling.{output_name, word_label, word_labels, IsNewLabel}

@@ -1,8 +1,7 @@
-use Rattle.std.proofs.Common.{◌∙◌, sym, subst, List, ℕ}
+use Rattle.std.proofs.Common.{◌∙◌, subst, List, ℕ}
 use Rattle.std.proofs.lemmas.Result.{MatchResult-weaker}
 use Rattle.graph_core.specs.Arranged.{IsArranged}
 use Rattle.graph_core.specs.Fault.{IsCycleFault}
-use Rattle.net_core.specs.Driving.{roots_of}
 use Rattle.net_core.proofs.LevelLemmas.{roots_inside}
 use Rattle.net_core.proofs.LoopLemmas.{loop_fault_of}
 use Rattle.net_core.proofs.driving.nets_in_order.Goals as goal

@@ -1,4 +1,4 @@
-use Rattle.std.proofs.Common.{◌≡◌, ◌∙◌, ap, arith, ◌<◌, List, length, Some, ℕ}
+use Rattle.std.proofs.Common.{◌≡◌, ◌∙◌, ap, arith, ◌<◌, List, length, Some}
 use Rattle.std.specs.Prelude.{slice_get, unwrap_or}
 use Rattle.lists.specs.laws.ReadLaws.{got_read}
 use Rattle.net_core.specs.GateValue.{GateValue}

@@ -1,5 +1,4 @@
-use Rattle.std.proofs.Common.{◌≡◌, refl, rules, ℕ, get_or, Some}
-use Rattle.std.specs.Prelude.{slice_get}
+use Rattle.std.proofs.Common.{refl, rules, ℕ, get_or}
 use Rattle.lists.specs.laws.ReadLaws.{got_at}
 use Rattle.net_core.proofs.LevelLemmas.{no_zeros, one_zero_more, zeros_all}
 use Rattle.net_core.proofs.levels.zeros.Goals as goal

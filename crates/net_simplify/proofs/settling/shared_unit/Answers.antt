@@ -1,6 +1,5 @@
-use Rattle.std.proofs.Common.{refl}
 use Rattle.std.proofs.lemmas.Result.{IfOk-weaker}
-use Rattle.net_simplify.proofs.SettleLemmas.{unit_added, unit_found}
+use Rattle.net_simplify.proofs.SettleLemmas.{unit_added}
 use Rattle.net_simplify.proofs.settling.shared_unit.Goals as goal
 
 pub returns-in-None : goal.returns-in-None

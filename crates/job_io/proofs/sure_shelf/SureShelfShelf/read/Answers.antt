@@ -1,4 +1,4 @@
-use Rattle.std.proofs.Common.{◌≡◌, subst, refl, false, List}
+use Rattle.std.proofs.Common.{subst, refl, false, List}
 use Rattle.std.specs.FinMap.{get}
 use Rattle.job_io.specs.Shelf.{files_of}
 use Rattle.job_io.specs.private.Reads.{Gives}
