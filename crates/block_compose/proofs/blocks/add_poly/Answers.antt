@@ -12,8 +12,8 @@ index-requires g c =
     let kept = c.requires.kept.2 in
     omega (arith, c.requires.polys.long, slice_get_within c.args.blocks.now c.args.number kept.block kept.found)
 
-pub block_poly-requires-clause-kept : goal.block_poly-requires-clause-kept
-block_poly-requires-clause-kept g c = c.requires.kept
+pub block_poly-requires : goal.block_poly-requires
+block_poly-requires g c = record { kept = c.requires.kept; }
 
 pub put_poly-requires : goal.put_poly-requires
 put_poly-requires g c =
