@@ -13,7 +13,7 @@ index-requires g c =
     omega (arith, c.requires.polys.long, slice_get_within c.args.blocks.now c.args.number kept.block kept.found)
 
 pub block_poly-requires : goal.block_poly-requires
-block_poly-requires g c = record { kept = c.requires.kept; }
+block_poly-requires g c = record { kept = c.requires.kept }
 
 pub put_poly-requires : goal.put_poly-requires
 put_poly-requires g c =
