@@ -1,5 +1,5 @@
 -- A reply has status 0 or 1, and a fault 2 or 3.
-use Rattle.std.proofs.Common.{◌≡◌, ◌⊎◌, ap, inl, inr, refl, ℕ, List, Option, None, Some, Ok}
+use Rattle.std.proofs.Common.{◌≡◌, ◌⊎◌, ◌<◌, ap, inl, inr, refl, ℕ, List, Option, None, Some, Ok, arith}
 use Rattle.job_io.specs.Shelf.{Files}
 use Rattle.poly_mixed.specs.Labels.{Labelling}
 use Rattle.circuit_model.specs.Differing.{Difference}
@@ -12,6 +12,7 @@ use Rattle.job_words.specs.declared.fault.Fault.TheVariants as faults
 use Rattle.job_input.specs.Labelling.{labels_of}
 use Rattle.job_input.specs.SettingValue.{SettingValue}
 use Rattle.gf_abs.specs.Answer.{ActionAnswer, Answer}
+use Rattle.gf_abs.specs.Written.{IsText}
 use Rattle.answer_core.specs.Reply.{Reply}
 use Rattle.answer_polynomials.specs.Check.{check_reply}
 use Rattle.answer_polynomials.specs.Same.{same_reply}
@@ -55,3 +56,16 @@ answer_status words held reply (Trial number modulus terms, spelled, is) = trial
 pub fault_statuses : (fault : Fault) → (fault_status fault ≡ 2) ⊎ (fault_status fault ≡ 3)
 fault_statuses (faults.Stage fault) = inr refl
 fault_statuses fault = inl refl
+
+-- a text that is written has a status below 4
+pub text_status : (words : List Word) (held : Option Files) (missed : Type 0) (status : ℕ) (text : List ℕ) → IsText (Answer words held) missed status text → status < 4
+text_status words held missed status text (inl answer) = elim (answer_status words held (record { status = status; text = text }) answer) [
+  | inl zero ↦ let is : status ≡ 0 = zero in omega (arith, is)
+  | inr one ↦ let is : status ≡ 1 = one in omega (arith, is)
+]
+text_status words held missed status text (inr refused) =
+    let same = refused.4 in
+    elim (fault_statuses refused.0) [
+      | inl two ↦ omega (arith, two, same)
+      | inr three ↦ omega (arith, three, same)
+    ]
